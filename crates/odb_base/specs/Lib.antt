@@ -1,0 +1,3 @@
+pub mod EcoState
+pub mod Kind
+pub mod Name
