@@ -80,6 +80,10 @@ module _ {A : Type 0} where
   abbrev pub replaced : ℕ → A → Table A → Table A
   replaced id x t = record t { slots = with_slot id (Some x) t.slots }
 
+  -- the pool with this record in place of that of the id
+  abbrev pub with_record : Pool A → ℕ → A → Pool A
+  with_record p id x = record p { table = replaced id x p.table }
+
   -- the way back of a take: the last slot goes where the take added it, else the id is given
   abbrev pub untaken : ℕ → Bool → Table A → Table A
   untaken id true t = record t { slots = take (length t.slots - 1) t.slots }

@@ -17,3 +17,6 @@ pub mod pool;
 pub use fault::PoolFault;
 pub use free_ids::FreeIds;
 pub use pool::{SlotPool, Taken};
+
+#[cfg(test)]
+mod tests;

@@ -1,4 +1,6 @@
 ghost use Rattle.std.specs.Prelude.{◌≡◌, ◌≢◌, ◌↔◌, ◌+◌, ◌-◌, ◌<◌, ◌≤◌, [], Some, None, Ok, Err, IsTrue, OnOk, length, reverse, option_copied, is_some, vec_len, vec_capacity, IsSome, true};
+ghost use Rattle.std.specs.Borrow.{sem};
+ghost use Rattle.std.specs.Option.Follows.{option_follows_value};
 ghost use Rattle.slot_pool.specs.Table.{record_in, is_vacant, with_slot};
 
 use crate::fault::PoolFault;
@@ -36,6 +38,7 @@ impl<T> Model for SlotPool<T> {
 
 impl<T> SlotPool<T> {
     ghost use Rattle.slot_pool.specs.Table.{IsGood, IsSpareBounded, CanUntake, CanUngive, record_at, is_live, live_count, next_id, takes_left, taken, given, replaced, untaken, ungiven};
+    ghost use Rattle.slot_pool.specs.Lending.{LendsRecord};
 
     /// A pool with no slots, which will have at most `cap`. It takes no memory.
     pub fn new(alloc: Global, cap: u32) -> SlotPool<T>
@@ -243,6 +246,30 @@ impl<T> SlotPool<T> {
     {
         moves.tick();
         self.slots[(id - 1) as usize].replace(value).unwrap()
+    }
+
+    /// The record of an id for writing. Once the borrow ends, the slot has the last value written, and all
+    /// else is as it was.
+    pub fn change<L: Ledger>(&mut self, id: u32, moves: &mut Steps<L>) -> &mut T
+        requires { IsTrue (is_live self.old.table id) }
+        ensures* pool { sem 𝓛 (LendsRecord T.row self.entry id result) }
+        ensures record { record_at self.old.table id ≡ Some result.now }
+        ensures moves { moves.new ≡ moves.old + 1 }
+    {
+        moves.tick();
+        record_mut(&mut self.slots[(id - 1) as usize])
+    }
+}
+
+// The record of a slot for writing.
+fn record_mut<T>(slot: &mut Option<T>) -> &mut T
+    requires { IsSome slot.old }
+    ensures* slot { sem 𝓛 (option_follows_value T.row slot.entry result) }
+    ensures record { slot.old ≡ Some result.now }
+{
+    match slot {
+        Some(record) => record,
+        None => unreachable!(),
     }
 }
 
