@@ -1,8 +1,8 @@
 -- How often ids stand in a list, and which slots are empty.
-use Rattle.std.proofs.Common.{◌≡◌, ℕ, ◌+◌, ◌-◌, ◌<◌, ◌≤◌, ◌≢◌, Bool, true, false, cond, eqb, not, List, [], ◌∷◌, ◌++◌, length, get_or, set, take, Option, Some, None, is_some, is_none, count_by, refl, sym, ap, ◌∙◌, arith, reverse}
-use Rattle.std.proofs.lemmas.List.Sums.{sum_by-cons, sum_by-append, sum_by_push, sum_by-set}
+use Rattle.std.proofs.Common.{◌≡◌, ℕ, ◌+◌, ◌-◌, ◌≤◌, ◌≢◌, true, false, cond, eqb, List, [], ◌∷◌, ◌++◌, length, get_or, take, Option, Some, None, is_some, is_none, count_by, refl, arith}
+use Rattle.std.proofs.lemmas.List.Sums.{sum_by-cons}
 use Rattle.std.proofs.lemmas.List.{get_or_past, length-take, get_or-take}
-use Rattle.std.proofs.lemmas.Grind.{common_steps, elements}
+use Rattle.std.proofs.lemmas.Grind.{elements}
 use Rattle.std.proofs.lemmas.Bool.Decides.{nat_tests}
 use Rattle.slot_pool.specs.Table.{times, once_if, is_vacant, record_in, with_slot}
 
@@ -11,11 +11,11 @@ pub times-cons : (id x : ℕ) (ids : List ℕ) → times id (x ∷ ids) ≡ once
 times-cons id x ids = sum_by-cons (λ other. cond (eqb other id) 1 0) x ids
 
 -- an id that a list holds is in front or behind
-pub times-top : (id x : ℕ) (ids : List ℕ) → x ≡ id → times id (x ∷ ids) ≡ 1 + times id ids
-times-top id x ids same = let e = times-cons id x ids in grind (arith, nat_tests, e)
+pub times_cons_same : (id x : ℕ) (ids : List ℕ) → x ≡ id → times id (x ∷ ids) ≡ 1 + times id ids
+times_cons_same id x ids same = let e = times-cons id x ids in grind (arith, nat_tests, e)
 
-pub times-below : (id x : ℕ) (ids : List ℕ) → x ≢ id → times id (x ∷ ids) ≡ times id ids
-times-below id x ids other = let e = times-cons id x ids in grind (arith, nat_tests, e)
+pub times_cons_other : (id x : ℕ) (ids : List ℕ) → x ≢ id → times id (x ∷ ids) ≡ times id ids
+times_cons_other id x ids other = let e = times-cons id x ids in grind (arith, nat_tests, e)
 
 module _ {A : Type 0} where
   -- each slot is empty or has a record
@@ -31,32 +31,32 @@ module _ {A : Type 0} where
       omega (arith, empty, live, empty_and_live slots)
 
   -- a slot with a record is added
-  pub vacant-push : (slots : List (Option A)) (x : A) (id : ℕ) → is_vacant (slots ++ Some x ∷ []) id ≡ is_vacant slots id
-  vacant-push slots x id = grind (arith, nat_tests, elements)
+  pub is_vacant-push : (slots : List (Option A)) (x : A) (id : ℕ) → is_vacant (slots ++ Some x ∷ []) id ≡ is_vacant slots id
+  is_vacant-push slots x id = grind (arith, nat_tests, elements)
 
   -- another slot has new content
-  pub vacant-set_other : (slots : List (Option A)) (content : Option A) (changed id : ℕ) → 1 ≤ changed → id ≢ changed → is_vacant (with_slot changed content slots) id ≡ is_vacant slots id
-  vacant-set_other slots content changed id some other = grind (arith, nat_tests, elements)
+  pub is_vacant-set_other : (slots : List (Option A)) (content : Option A) (changed id : ℕ) → 1 ≤ changed → id ≢ changed → is_vacant (with_slot changed content slots) id ≡ is_vacant slots id
+  is_vacant-set_other slots content changed id some other = grind (arith, nat_tests, elements)
 
   -- a slot has a record
-  pub vacant-set_live : (slots : List (Option A)) (x : A) (id : ℕ) → is_vacant (with_slot id (Some x) slots) id ≡ false
-  vacant-set_live slots x id = grind (arith, nat_tests, elements)
+  pub is_vacant-set_some : (slots : List (Option A)) (x : A) (id : ℕ) → is_vacant (with_slot id (Some x) slots) id ≡ false
+  is_vacant-set_some slots x id = grind (arith, nat_tests, elements)
 
   -- a slot is emptied
-  pub vacant-set_empty : (slots : List (Option A)) (changed id : ℕ) → changed ≡ id → 1 ≤ changed → changed ≤ length slots → is_vacant (with_slot changed None slots) id ≡ true
-  vacant-set_empty slots changed id same some within = grind (arith, nat_tests, elements)
+  pub is_vacant-set_none : (slots : List (Option A)) (changed id : ℕ) → changed ≡ id → 1 ≤ changed → changed ≤ length slots → is_vacant (with_slot changed None slots) id ≡ true
+  is_vacant-set_none slots changed id same some within = grind (arith, nat_tests, elements)
 
   -- an id is vacant only within the slots, which have no record there
-  pub vacant-is : (slots : List (Option A)) (id : ℕ) → is_vacant slots id ≡ true → (1 ≤ id) × (id ≤ length slots) × (get_or slots (id - 1) None ≡ None)
-  vacant-is slots id h = grind (arith, nat_tests, h)
+  pub vacant_within : (slots : List (Option A)) (id : ℕ) → is_vacant slots id ≡ true → (1 ≤ id) × (id ≤ length slots) × (get_or slots (id - 1) None ≡ None)
+  vacant_within slots id h = grind (arith, nat_tests, h)
 
   -- an id with a record is within the slots, and not vacant
-  pub live-is : (slots : List (Option A)) (id : ℕ) → is_some (record_in slots id) ≡ true → (1 ≤ id) × (id ≤ length slots) × (record_in slots id ≡ get_or slots (id - 1) None) × (is_vacant slots id ≡ false)
-  live-is slots id h = grind (arith, nat_tests, get_or_past slots (id - 1) None, h)
+  pub live_within : (slots : List (Option A)) (id : ℕ) → is_some (record_in slots id) ≡ true → (1 ≤ id) × (id ≤ length slots) × (record_in slots id ≡ get_or slots (id - 1) None) × (is_vacant slots id ≡ false)
+  live_within slots id h = grind (arith, nat_tests, get_or_past slots (id - 1) None, h)
 
   -- the last slot is dropped
-  pub vacant-take : (slots : List (Option A)) (id : ℕ) → is_vacant (take (length slots - 1) slots) id ≡ true → is_vacant slots id ≡ true
-  vacant-take slots id h =
+  pub is_vacant-take : (slots : List (Option A)) (id : ℕ) → is_vacant (take (length slots - 1) slots) id ≡ true → is_vacant slots id ≡ true
+  is_vacant-take slots id h =
       let within = length-take (length slots - 1) slots in
       let same = get_or-take (length slots - 1) slots (id - 1) None in
       grind (arith, nat_tests, within, same, h)
@@ -64,5 +64,5 @@ module _ {A : Type 0} where
   -- a vacant slot's new content
   pub record_in-set : (slots : List (Option A)) (content : Option A) (id : ℕ) → is_vacant slots id ≡ true → record_in (with_slot id content slots) id ≡ content
   record_in-set slots content id vacant =
-      let was = vacant-is slots id vacant in
+      let was = vacant_within slots id vacant in
       grind (arith, nat_tests, elements, was.0, was.1)

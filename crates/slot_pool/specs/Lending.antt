@@ -1,7 +1,6 @@
 -- What a pool or a slot ends as, where a `&mut` to a record in it is returned.
-use Rattle.std.specs.Prelude.{ℕ, Option, Some}
+use Rattle.std.specs.Prelude.{ℕ}
 use Rattle.std.specs.Borrow.{Lends, Fml, RattleType, MutBor}
-use Rattle.std.specs.Option.Follows.{option_follows_value}
 use Rattle.slot_pool.specs.Table.{Pool, with_record}
 use Rattle.slot_pool.specs.contracts.pool.SlotPool.{the_row}
 

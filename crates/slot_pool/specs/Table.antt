@@ -1,5 +1,5 @@
 -- Tables of numbered slots, their good states, and the moves on them.
-use Rattle.std.specs.Prelude.{◌≡◌, ◌≢◌, ◌==◌, ◌&&◌, ℕ, ◌+◌, ◌-◌, ◌≤◌, Bool, true, false, List, [], ◌∷◌, ◌++◌, Option, Some, None, IsTrue, if◌then◌else◌, is_some, is_none, length, take, count_by, nat_le, slice_index_or, slice_set}
+use Rattle.std.specs.Prelude.{◌≡◌, ◌≢◌, ◌==◌, ◌&&◌, ℕ, ◌+◌, ◌-◌, ◌≤◌, Bool, true, false, List, [], ◌∷◌, ◌++◌, Option, Some, None, IsTrue, if◌then◌else◌, is_some, is_none, length, take, All, count_by, nat_le, slice_index_or, slice_set}
 
 -- a list of slots, each with a record or empty, and a list of free ids, top first: id k names the k-th
 -- slot, from 1
@@ -93,8 +93,8 @@ module _ {A : Type 0} where
   abbrev pub ungiven : A → Table A → Table A
   ungiven x t = taken x t
 
-  -- a take can have given this id last: it is live and, where the take added a slot, the last slot's
-  -- with no id free
+  -- the take of this id can be taken back: the id is live and, where the take added its slot, that slot
+  -- is the last and no id is free
   pub record CanUntake (t : Table A) (id : ℕ) (grew : Bool) : Type 0 where
     pub live : IsTrue (is_live t id)
     pub last : IsTrue grew → id ≡ length t.slots
@@ -103,3 +103,11 @@ module _ {A : Type 0} where
   -- some id is free
   abbrev pub CanUngive : Table A → Type 0
   CanUngive t = t.free ≢ []
+
+  -- each free id names an empty slot
+  abbrev pub FreeIdsAreVacant : Table A → Type 0
+  FreeIdsAreVacant t = All (λ id. IsTrue (is_vacant t.slots id)) t.free
+
+  -- no id that takes will give has a record yet
+  abbrev pub NextIdsAreNew : Table A → Type 0
+  NextIdsAreNew t = (k : ℕ) → record_at t (next_id t k) ≡ None

@@ -4,7 +4,6 @@ ghost use Rattle.std.specs.Iterator.{YieldsFirst, item_count};
 use std::marker::{Model, PhantomData};
 
 /// The free ids of a pool that are left, top first. Contracts see their list.
-#[derive(Drop)]
 pub struct FreeIds<'a, T> {
     stack: &'a [u32],
     of: PhantomData<&'a T>,
@@ -27,6 +26,12 @@ impl<'a, T> FreeIds<'a, T> {
             stack,
             of: PhantomData,
         }
+    }
+}
+
+impl<'a, T> Drop for FreeIds<'a, T> {
+    fn drop(self) {
+        let FreeIds { stack: _, of: _ } = self;
     }
 }
 

@@ -2,20 +2,26 @@
 //! database.
 //!
 //! Contracts see a [`SlotPool`] as its table, its cap and a number `spare`. The table is a list of slots, each
-//! with a record or empty, and a list of the free ids, top first. Id k names the k-th slot, from 1. A take gives
-//! the top free id, or adds a slot where no id is free; `spare` says how many takes have memory for sure.
+//! with a record or empty, and the list of the free ids, which are those of the empty slots, top first. Id k
+//! names the k-th slot, from 1. A take uses the top free id, and adds a slot where no id is free. `spare` is a
+//! number of takes for which there is memory.
 //!
-//! Each move takes a constant number of steps and no memory, and counts one tick. [`SlotPool::reserve`] alone
-//! takes memory. Records are never cloned, compared or dropped here, slots are never moved, and memory is kept
-//! until the pool goes.
+//! A move (`take`, `give`, their ways back `untake` and `ungive`, `replace`, `change`) counts one tick, takes a
+//! constant number of steps and no memory, and so does each call that reads. [`SlotPool::reserve`] alone takes
+//! memory; where it has to, it moves all slots once.
+//!
+//! A record keeps its id until it is given. The pool doesn't clone or compare records, gives no memory back
+//! while it lives, and knows nothing of what a record means.
 #![tactic(auto)]
 
 pub mod fault;
 pub mod free_ids;
+pub mod laws;
 pub mod pool;
 
 pub use fault::PoolFault;
 pub use free_ids::FreeIds;
+pub use laws::good_tables;
 pub use pool::{SlotPool, Taken};
 
 #[cfg(test)]

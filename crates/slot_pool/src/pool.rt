@@ -1,4 +1,4 @@
-ghost use Rattle.std.specs.Prelude.{◌≡◌, ◌≢◌, ◌↔◌, ◌+◌, ◌-◌, ◌<◌, ◌≤◌, [], Some, None, Ok, Err, IsTrue, OnOk, length, reverse, option_copied, is_some, vec_len, vec_capacity, IsSome, true};
+ghost use Rattle.std.specs.Prelude.{◌≡◌, ◌↔◌, ◌+◌, ◌-◌, ◌<◌, ◌≤◌, [], true, IsTrue, IsSome, OnOk, length, option_copied, vec_capacity};
 ghost use Rattle.std.specs.Borrow.{sem};
 ghost use Rattle.std.specs.Option.Follows.{option_follows_value};
 ghost use Rattle.slot_pool.specs.Table.{record_in, is_vacant, with_slot};
@@ -33,11 +33,14 @@ impl<T> Model for SlotPool<T> {
       spare = spare_of s.slots.items s.free.items (vec_capacity s.slots) (vec_capacity s.free) s.cap;
     } };
 
-    ghost invariant = { λ s. IsKept s.slots.items s.free.items (vec_capacity s.slots) (vec_capacity s.free) s.cap };
+    ghost invariant = { λ s.
+        IsKept s.slots.items s.free.items (vec_capacity s.slots) (vec_capacity s.free) s.cap };
 }
 
 impl<T> SlotPool<T> {
-    ghost use Rattle.slot_pool.specs.Table.{IsGood, IsSpareBounded, CanUntake, CanUngive, record_at, is_live, live_count, next_id, takes_left, taken, given, replaced, untaken, ungiven};
+    ghost use Rattle.slot_pool.specs.Table.{IsGood, IsSpareBounded, CanUntake, CanUngive};
+    ghost use Rattle.slot_pool.specs.Table.{record_at, is_live, live_count, next_id, takes_left};
+    ghost use Rattle.slot_pool.specs.Table.{taken, given, replaced, untaken, ungiven};
     ghost use Rattle.slot_pool.specs.Lending.{LendsRecord};
 
     /// A pool with no slots, which will have at most `cap`. It takes no memory.
@@ -167,15 +170,15 @@ impl<T> SlotPool<T> {
         ensures back { untaken result true self.new.table ≡ self.old.table }
         ensures can { CanUntake self.new.table result true }
     {
-        let _cap = self.cap;
+        let id = self.slots.len() as u32 + 1;
         self.slots.push_reserved(Some(value));
-        self.slots.len() as u32
+        id
     }
 
     /// Takes the record out of its slot, and puts the id on top of the free ids.
     pub fn give<L: Ledger>(&mut self, id: u32, moves: &mut Steps<L>) -> T
         requires { IsTrue (is_live self.old.table id) }
-        ensures record { record_at self.old.table id ≡ Some result }
+        ensures value { record_at self.old.table id ≡ Some result }
         ensures table { self.new.table ≡ given id self.old.table }
         ensures cap { self.new.cap ≡ self.old.cap }
         ensures spare { self.old.spare + 1 ≤ self.new.spare }
@@ -193,7 +196,7 @@ impl<T> SlotPool<T> {
     /// the id goes on top of the free ids.
     pub fn untake<L: Ledger>(&mut self, id: u32, grew: bool, moves: &mut Steps<L>) -> T
         requires { CanUntake self.old.table id grew }
-        ensures record { record_at self.old.table id ≡ Some result }
+        ensures value { record_at self.old.table id ≡ Some result }
         ensures table { self.new.table ≡ untaken id grew self.old.table }
         ensures cap { self.new.cap ≡ self.old.cap }
         ensures spare { self.old.spare + 1 ≤ self.new.spare }
@@ -210,7 +213,7 @@ impl<T> SlotPool<T> {
     // Drops the last slot, that of this id.
     fn shrink(&mut self, id: u32) -> T
         requires { CanUntake self.old.table id true }
-        ensures record { record_at self.old.table id ≡ Some result }
+        ensures value { record_at self.old.table id ≡ Some result }
         ensures table { self.new.table ≡ untaken id true self.old.table }
         ensures cap { self.new.cap ≡ self.old.cap }
         ensures spare { self.old.spare + 1 ≤ self.new.spare }
@@ -238,7 +241,7 @@ impl<T> SlotPool<T> {
     /// Puts a record into a slot in place of its own, which it answers.
     pub fn replace<L: Ledger>(&mut self, id: u32, value: T, moves: &mut Steps<L>) -> T
         requires { IsTrue (is_live self.old.table id) }
-        ensures record { record_at self.old.table id ≡ Some result }
+        ensures value { record_at self.old.table id ≡ Some result }
         ensures table { self.new.table ≡ replaced id value self.old.table }
         ensures cap { self.new.cap ≡ self.old.cap }
         ensures spare { self.new.spare ≡ self.old.spare }
@@ -252,8 +255,8 @@ impl<T> SlotPool<T> {
     /// else is as it was.
     pub fn change<L: Ledger>(&mut self, id: u32, moves: &mut Steps<L>) -> &mut T
         requires { IsTrue (is_live self.old.table id) }
-        ensures* pool { sem 𝓛 (LendsRecord T.row self.entry id result) }
-        ensures record { record_at self.old.table id ≡ Some result.now }
+        ensures* writes_back { sem 𝓛 (LendsRecord T.row self.entry id result) }
+        ensures value { record_at self.old.table id ≡ Some result.now }
         ensures moves { moves.new ≡ moves.old + 1 }
     {
         moves.tick();
@@ -264,8 +267,8 @@ impl<T> SlotPool<T> {
 // The record of a slot for writing.
 fn record_mut<T>(slot: &mut Option<T>) -> &mut T
     requires { IsSome slot.old }
-    ensures* slot { sem 𝓛 (option_follows_value T.row slot.entry result) }
-    ensures record { slot.old ≡ Some result.now }
+    ensures* writes_back { sem 𝓛 (option_follows_value T.row slot.entry result) }
+    ensures value { slot.old ≡ Some result.now }
 {
     match slot {
         Some(record) => record,
@@ -276,7 +279,7 @@ fn record_mut<T>(slot: &mut Option<T>) -> &mut T
 // Takes the record out of its slot.
 fn vacate<T>(slots: &mut Vec<Option<T>>, id: u32) -> T
     requires { IsSome (record_in slots.old.items id) }
-    ensures record { record_in slots.old.items id ≡ Some result }
+    ensures value { record_in slots.old.items id ≡ Some result }
     ensures slots { slots.new.items ≡ with_slot id None slots.old.items }
     ensures room { vec_capacity slots.new ≡ vec_capacity slots.old }
 {

@@ -1,7 +1,7 @@
-use Rattle.std.proofs.Common.{◌≡◌, Some, is_some, ap}
+use Rattle.std.proofs.Common.{Some, is_some, ap}
 use Rattle.slot_pool.proofs.Counts.{record_in-set}
 use Rattle.slot_pool.proofs.Tables.{given-taken}
-use Rattle.slot_pool.proofs.Keeping.{top_reverse, good_top, vacant_top, kept_used}
+use Rattle.slot_pool.proofs.Keeping.{top_reverse, good_top, vacant_top, IsKept-used}
 use Rattle.slot_pool.proofs.pool.SlotPool.ungive.Goals as goal
 
 pub fill-requires : goal.fill-requires
@@ -13,7 +13,7 @@ pub invariant_of-self : goal.invariant_of-self
 invariant_of-self g c =
     let popped = rw c.unwrap-id.ensures at c.pop.ensures.items in
     rw (c.fill.ensures.slots, c.fill.ensures.room, c.pop.ensures.capacity)
-    (kept_used _ _ _ _ _ c.unwrap-id.result c.pop.new.self.items c.args.value popped c.self.invariant)
+    (IsKept-used _ _ _ _ _ c.unwrap-id.result c.pop.new.self.items c.args.value popped c.self.invariant)
 
 pub returns-clause-back : goal.returns-clause-back
 returns-clause-back g c =
