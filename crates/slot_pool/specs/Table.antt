@@ -29,7 +29,7 @@ module _ {A : Type 0} where
   abbrev pub is_vacant : List (Option A) → ℕ → Bool
   is_vacant slots id = nat_le 1 id && nat_le id (length slots) && is_none (record_in slots id)
 
-  -- the slots, where the one of this id has this content
+  -- the slots, where the one of this id, from 1 on, has this content
   abbrev pub with_slot : ℕ → Option A → List (Option A) → List (Option A)
   with_slot id content slots = slice_set slots (id - 1) content
 
