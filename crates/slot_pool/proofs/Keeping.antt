@@ -5,7 +5,7 @@ use Rattle.std.proofs.lemmas.List.Sums.{sum_by-set, sum_by_push, sum_by-take-le,
 use Rattle.slot_pool.specs.Table.{once_if, is_vacant, record_in, with_slot, IsGood}
 use Rattle.slot_pool.specs.Layout.{table_of, spare_of, IsKept}
 use Rattle.slot_pool.proofs.Counts.{empty_and_live, vacant_within, live_within}
-use Rattle.slot_pool.proofs.Tables.{top_is, IsGood-taken, IsGood-given, IsGood-untaken, IsGood-replaced}
+use Rattle.slot_pool.proofs.Tables.{top_is, IsGood-taken, IsGood-given, IsGood-shortened, IsGood-replaced}
 
 -- the last of a stack is the top
 pub top_reverse : (stack : List ℕ) (top : ℕ) → reverse (stack ++ top ∷ []) ≡ top ∷ reverse stack
@@ -104,7 +104,7 @@ module _ {A : Type 0} (slots : List (Option A)) (stack : List ℕ) (slot_room st
       let count : count_by is_none (take (length slots - 1) slots) ≤ count_by is_none slots = sum_by-take-le (λ slot. cond (is_none slot) 1 0) slots (length slots - 1) in
       let none : length stack ≡ 0 = sym (length-reverse stack) ∙ ap length none_free in
       record {
-        good = IsGood-untaken (table_of slots stack) kept.good none_free;
+        good = IsGood-shortened (table_of slots stack) kept.good none_free;
         counted = omega (arith, count, none, kept.counted);
         capped = omega (arith, short, kept.capped);
         in_slots = omega (arith, short, kept.in_slots);

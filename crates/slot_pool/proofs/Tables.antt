@@ -1,9 +1,9 @@
 -- Good tables stay good, and each move has its way back.
-use Rattle.std.proofs.Common.{◌≡◌, ℕ, ◌+◌, ◌-◌, ◌≢◌, true, false, List, [], ◌∷◌, ◌++◌, length, get_or, set, take, Option, Some, None, is_some, refl, sym, ap, ◌∙◌, arith, ◌⊎◌, inl, inr}
+use Rattle.std.proofs.Common.{◌≡◌, ℕ, ◌+◌, ◌-◌, ◌≢◌, Bool, true, false, List, [], ◌∷◌, ◌++◌, length, get_or, set, take, Option, Some, None, is_some, refl, sym, ap, ◌∙◌, arith, ◌⊎◌, inl, inr}
 use Rattle.std.proofs.lemmas.Bool.Decides.{nat_tests}
 use Rattle.std.proofs.lemmas.Bool.{cases_eq, cases_Bool}
 use Rattle.std.proofs.lemmas.List.{set-set, set-get_or, take_at, length_push}
-use Rattle.slot_pool.specs.Table.{Table, times, once_if, is_vacant, with_slot, record_at, is_live, IsGood, taken_by, taken, given, replaced, untaken}
+use Rattle.slot_pool.specs.Table.{Table, times, once_if, is_vacant, with_slot, record_at, is_live, IsGood, taken_by, taken, given, replaced, untaken, CanUntake}
 use Rattle.slot_pool.proofs.Counts.{times_cons_same, times_cons_other, is_vacant-push, is_vacant-set_other, is_vacant-set_some, is_vacant-set_none, vacant_within, live_within, is_vacant-take}
 
 module _ {A : Type 0} where
@@ -51,9 +51,14 @@ module _ {A : Type 0} where
       rw vacant (good id ∙ ap once_if was)
   good_dropped t good none_free id (inr not_vacant) = rw (not_vacant, none_free) refl
 
-  -- the way back of a take that added a slot keeps a table good
-  pub IsGood-untaken : (t : Table A) → IsGood t → t.free ≡ [] → IsGood (untaken 0 true t)
-  IsGood-untaken t good none_free = λ id. good_dropped t good none_free id (cases_Bool (is_vacant (take (length t.slots - 1) t.slots) id))
+  -- a good table without its last slot, where no id is free
+  pub IsGood-shortened : (t : Table A) → IsGood t → t.free ≡ [] → IsGood (record t { slots = take (length t.slots - 1) t.slots })
+  IsGood-shortened t good none_free = λ id. good_dropped t good none_free id (cases_Bool (is_vacant (take (length t.slots - 1) t.slots) id))
+
+  -- the way back of a take keeps a table good
+  pub IsGood-untaken : (id : ℕ) (grew : Bool) (t : Table A) → IsGood t → CanUntake t id grew → IsGood (untaken id grew t)
+  IsGood-untaken id true t good can = IsGood-shortened t good (can.none_free refl)
+  IsGood-untaken id false t good can = IsGood-given id t good can.live
 
   -- a live slot has another record
   good_rewritten : (id : ℕ) (x : A) (t : Table A) → IsGood t → is_live t id ≡ true → (other : ℕ) → (id ≡ other) ⊎ (id ≢ other) → times other t.free ≡ once_if (is_vacant (with_slot id (Some x) t.slots) other)

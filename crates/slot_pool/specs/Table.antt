@@ -111,3 +111,15 @@ module _ {A : Type 0} where
   -- no id that takes will give has a record yet
   abbrev pub NextIdsAreNew : Table A → Type 0
   NextIdsAreNew t = (k : ℕ) → record_at t (next_id t k) ≡ None
+
+  -- a take puts the record at the next id, and leaves what the other ids have
+  abbrev pub RecordsAfterTake : A → Table A → Type 0
+  RecordsAfterTake x t = (id : ℕ) → record_at (taken x t) id ≡ (if id == next_id t 0 then Some x else record_at t id)
+
+  -- a give takes the record of the id away, and leaves what the other ids have
+  abbrev pub RecordsAfterGive : ℕ → Table A → Type 0
+  RecordsAfterGive id t = (other : ℕ) → record_at (given id t) other ≡ (if other == id then None else record_at t other)
+
+  -- the id has the new record, and the other ids what they had
+  abbrev pub RecordsAfterReplace : ℕ → A → Table A → Type 0
+  RecordsAfterReplace id x t = (other : ℕ) → record_at (replaced id x t) other ≡ (if other == id then Some x else record_at t other)

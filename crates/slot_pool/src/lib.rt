@@ -21,7 +21,7 @@ pub mod pool;
 
 pub use fault::PoolFault;
 pub use free_ids::FreeIds;
-pub use laws::good_tables;
+pub use laws::{good_after_moves, good_tables, records_after_moves};
 pub use pool::{SlotPool, Taken};
 
 #[cfg(test)]
