@@ -39,3 +39,15 @@ module _ {A : Type 0} where
 
   pub next_ids_are_new : (t : Table A) → IsGood t → NextIdsAreNew t
   next_ids_are_new t good = λ k. next_is_new t good k (cases_lt k (length t.free))
+
+module _ {A : Type 0} where
+  -- where the cap allows the take, its id is within the cap
+  pub next_id_within : (t : Table A) (cap k : ℕ) → IsGood t → length t.slots ≤ cap → k < length t.free + (cap - length t.slots) → next_id t k ≤ cap
+  next_id_within t cap k good capped allowed = elim (cases_lt k (length t.free)) [
+    | inl free ↦
+        let past = length t.slots + (k + 1 - length t.free) in
+        let vacant = vacant_if_held t good (get_or t.free k past) (held_at t.free k past free) in
+        let within = vacant_within t.slots (get_or t.free k past) vacant in
+        omega (arith, within)
+    | inr grown ↦ rw (get_or_past t.free k (length t.slots + (k + 1 - length t.free)) grown) (omega arith)
+  ]

@@ -1,4 +1,4 @@
-ghost use Rattle.std.specs.Prelude.{◌≡◌, ◌↔◌, ◌+◌, ◌-◌, ◌<◌, ◌≤◌, [], true, IsTrue, IsSome, OnOk, length, option_copied, vec_capacity};
+ghost use Rattle.std.specs.Prelude.{◌≡◌, ◌↔◌, ◌+◌, ◌-◌, ◌<◌, ◌≤◌, ◌^◌, [], true, IsTrue, IsSome, OnOk, length, option_copied, vec_capacity};
 ghost use Rattle.std.specs.Borrow.{sem};
 ghost use Rattle.std.specs.Option.Follows.{option_follows_value};
 ghost use Rattle.slot_pool.specs.Table.{record_in, is_vacant, with_slot};
@@ -57,7 +57,8 @@ impl<T> SlotPool<T> {
 
     /// The greatest number of slots.
     pub fn cap(&self) -> u32
-        ensures { result ≡ self.now.cap }
+        ensures cap { result ≡ self.now.cap }
+        ensures within { length self.now.table.slots ≤ self.now.cap }
     {
         self.cap
     }
@@ -91,7 +92,8 @@ impl<T> SlotPool<T> {
     /// The number of slots with a record.
     #[tactic(auto, using(crate::proofs::Counts::empty_and_live))]
     pub fn live_count(&self) -> u32
-        ensures { result ≡ live_count self.now.table }
+        ensures count { result ≡ live_count self.now.table }
+        ensures others { result + length self.now.table.free ≡ length self.now.table.slots }
     {
         let _cap = self.cap;
         (self.slots.len() - self.free.len()) as u32
@@ -106,6 +108,15 @@ impl<T> SlotPool<T> {
 
     /// The id that the take after `k` further takes would give.
     pub fn next_id(&self, k: u32) -> u64
+        ensures id { result ≡ next_id self.now.table k }
+        ensures within { k < takes_left self.now → result ≤ self.now.cap }
+        ensures fits { k < takes_left self.now → result < 2 ^ 32 }
+    {
+        let _cap = self.cap;
+        self.id_after(k)
+    }
+
+    fn id_after(&self, k: u32) -> u64
         ensures { result ≡ next_id self.now.table k }
     {
         let free = self.free.len();

@@ -1,0 +1,51 @@
+//! The program `odb`: it reads a script on standard input, and answers each line on standard output.
+#![tactic(auto)]
+
+mod standard_input;
+mod standard_output;
+
+use odb_base::Text;
+use odb_run::{Status, odb_main};
+use standard_input::StandardInput;
+use standard_output::StandardOutput;
+use std::process::ExitCode;
+use std::rt::Env;
+use std::{env, io};
+
+fn main(rt: HostRuntime) -> ExitCode {
+    let status = run(&rt);
+    if let Some(message) = message(status) {
+        let _ = eprintln!(rt; "odb: {message}");
+    }
+    ExitCode::from(status as u8)
+}
+
+fn run<R: Env + Input + Print + AllocGlobal>(rt: &R) -> Status {
+    let Ok(words) = words(rt) else {
+        return Status::Memory;
+    };
+    let mut script = StandardInput::new(rt.reader());
+    let mut out = StandardOutput::new(io::writer(rt));
+    odb_main(rt.alloc(), &words, &mut script, &mut out)
+}
+
+// The words behind the program's name.
+fn words<R: Env + AllocGlobal>(rt: &R) -> io::Result<Vec<Text>> {
+    let mut words = Vec::new(rt.alloc());
+    for word in env::args(rt)?.skip(1) {
+        words.push(Text::new(rt.alloc(), word.as_bytes())?)?;
+    }
+    Ok(words)
+}
+
+// What is told of a status on standard error.
+fn message(status: Status) -> Option<&'static str> {
+    match status {
+        Status::Done | Status::Refused => None,
+        Status::Usage => Some("bad arguments"),
+        Status::ScriptFault => Some("reading the script failed"),
+        Status::OutFault => Some("writing replies failed"),
+        Status::ScriptTooLong => Some("the script is too long"),
+        Status::Memory => Some("out of memory"),
+    }
+}

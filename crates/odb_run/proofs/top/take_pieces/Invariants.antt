@@ -1,0 +1,21 @@
+-- The run is within its script, of which so much was taken.
+use Rattle.std.proofs.Common.{◌-◌, ◌≤◌, IsTrue}
+use Rattle.odb_run.specs.Running.{Within}
+use Rattle.odb_run.specs.declared.top.TheConstants.{SCRIPT_LIMIT}
+use Rattle.odb_run.proofs.top.take_pieces.Given as goal
+
+abbrev pub invariant-pieces : goal.invariant-pieces
+invariant-pieces g l =
+    let source = g.S.Source in
+    let sink = g.K.Sink in
+    record {
+      script_ready : IsTrue (source.ready l.script);
+      out_ready : IsTrue (sink.ready l.out);
+      script_later : source.faults l.initial.script ≤ source.faults l.script;
+      out_later : sink.faults l.initial.out ≤ sink.faults l.out;
+      limit : l.taken ≤ SCRIPT_LIMIT;
+      within : Within l.initial.run.state (source.left l.initial.script) (source.left l.script) (sink.held l.initial.out) (sink.held l.out) l.run l.taken;
+    }
+
+abbrev pub decreases-pieces : goal.decreases-pieces
+decreases-pieces g l = SCRIPT_LIMIT - l.taken

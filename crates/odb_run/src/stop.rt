@@ -1,0 +1,56 @@
+ghost use Rattle.std.specs.Prelude.{◌≡◌};
+ghost use Rattle.odb_run.specs.Running.{status_of, stop_of};
+ghost use Rattle.odb_run.specs.declared.stop.Stop.TheVariants.{Memory, ScriptFault};
+
+use crate::status::Status;
+use odb_outside::{Failed, WriteFault};
+use std::alloc::AllocError;
+
+/// What ends a run before its script has ended.
+#[derive(Clone, Copy, Debug, PartialEq, Eq)]
+pub enum Stop {
+    ScriptFault,
+    OutFault,
+    ScriptTooLong,
+    Memory,
+}
+
+impl Stop {
+    pub fn status(self) -> Status
+        ensures { result ≡ status_of self }
+    {
+        match self {
+            Stop::ScriptFault => Status::ScriptFault,
+            Stop::OutFault => Status::OutFault,
+            Stop::ScriptTooLong => Status::ScriptTooLong,
+            Stop::Memory => Status::Memory,
+        }
+    }
+}
+
+impl From<Failed> for Stop {
+    ghost from_gives = { λ _ stop. stop ≡ ScriptFault };
+
+    fn from(_: Failed) -> Self {
+        Stop::ScriptFault
+    }
+}
+
+impl From<WriteFault> for Stop {
+    ghost from_gives = { λ fault stop. stop ≡ stop_of fault };
+
+    fn from(fault: WriteFault) -> Self {
+        match fault {
+            WriteFault::Failed => Stop::OutFault,
+            WriteFault::Memory => Stop::Memory,
+        }
+    }
+}
+
+impl From<AllocError> for Stop {
+    ghost from_gives = { λ _ stop. stop ≡ Memory };
+
+    fn from(_: AllocError) -> Self {
+        Stop::Memory
+    }
+}

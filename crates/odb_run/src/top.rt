@@ -1,0 +1,146 @@
+ghost use Rattle.std.specs.Prelude.{◌≡◌, ◌≢◌, ◌-◌, ◌<◌, ◌≤◌, ◌^◌, [], IfOk, IsSomeAnd, IsTrue, length};
+ghost use Rattle.odb_outside.specs.Outside.{Rose};
+ghost use Rattle.odb_run.specs.Headline.{IsAnswered, RunsToldAs};
+ghost use Rattle.odb_run.specs.Machine.{start};
+ghost use Rattle.odb_run.specs.Running.{HasFaultCause, ended, first_run};
+ghost use Rattle.odb_run.specs.declared.run.TheConstants.{MAX_SLOTS};
+
+use crate::run::{PIECE, Run};
+use crate::status::Status;
+use crate::stop::Stop;
+use odb_base::{Steps, Text};
+use odb_outside::{Sink, Source};
+use std::alloc::{AllocError, Global};
+use std::marker::Brand;
+use std::sync::ledger::{Blank, Ledger};
+
+/// The greatest number of bytes in a script.
+pub const SCRIPT_LIMIT: usize = 1 << 30;
+
+/// Runs the script to its end or to what stops it.
+///
+/// With `Done` or `Refused`, `out` has gained the replies of the copying machine to all lines of the script,
+/// and `Refused` says that one of them is a refusal. After any other status what was written is a prefix of
+/// these replies. The lawful command line is the empty list of words.
+pub fn odb_main<S: Source, K: Sink>(
+    alloc: Global,
+    words: &[Text],
+    script: &mut S,
+    out: &mut K,
+) -> Status
+    requires script_ready { IsTrue (S.ready script.old) }
+    requires out_ready { IsTrue (K.ready out.old) }
+    ensures runs { RunsToldAs (start MAX_SLOTS) result (S.left script.old) (K.held out.old) (K.held out.new) }
+
+    // Why a status comes.
+    ensures usage { words.now ≢ [] → result ≡ Status.Usage }
+    ensures lawful { words.now ≡ [] → result ≢ Status.Usage }
+    ensures untouched { result ≡ Status.Usage → (script.new ≡ script.old) × (out.new ≡ out.old) }
+    ensures script_fault { result ≡ Status.ScriptFault → Rose (S.faults script.old) (S.faults script.new) }
+    ensures out_fault { result ≡ Status.OutFault → Rose (K.faults out.old) (K.faults out.new) }
+
+    // Where nothing is in the way, the whole script is answered.
+    ensures complete { words.now ≡ [] → ¬ Rose (S.faults script.old) (S.faults script.new) → ¬ Rose (K.faults out.old) (K.faults out.new)
+        → IsSomeAnd (S.left script.old) (λ bytes. length bytes ≤ 2 ^ 30) → IsAnswered result }
+{
+    if !words.is_empty() {
+        return Status::Usage;
+    }
+    run_counted::<S, K, Brand>(alloc, script, out, Blank::new(1))
+}
+
+// Runs the script over a counter of steps of its own.
+fn run_counted<S: Source, K: Sink, L: Ledger>(
+    alloc: Global,
+    script: &mut S,
+    out: &mut K,
+    blank: Blank,
+) -> Status
+    requires script_ready { IsTrue (S.ready script.old) }
+    requires out_ready { IsTrue (K.ready out.old) }
+    requires name { blank.name ≡ L.name }
+    requires parts { blank.parts ≡ L.parts }
+    requires some { blank.parts ≡ 1 }
+    ensures runs { RunsToldAs (start MAX_SLOTS) result (S.left script.old) (K.held out.old) (K.held out.new) }
+    ensures lawful { result ≢ Status.Usage }
+    ensures script_fault { result ≡ Status.ScriptFault → Rose (S.faults script.old) (S.faults script.new) }
+    ensures out_fault { result ≡ Status.OutFault → Rose (K.faults out.old) (K.faults out.new) }
+{
+    let mut moves = Steps::<L>::new(blank);
+    match run_script(alloc, script, out, &mut moves) {
+        Ok(false) => Status::Done,
+        Ok(true) => Status::Refused,
+        Err(stop) => stop.status(),
+    }
+}
+
+// Runs the script, and says whether some line was refused.
+fn run_script<S: Source, K: Sink, L: Ledger>(
+    alloc: Global,
+    script: &mut S,
+    out: &mut K,
+    moves: &mut Steps<L>,
+) -> Result<bool, Stop>
+    requires script_ready { IsTrue (S.ready script.old) }
+    requires out_ready { IsTrue (K.ready out.old) }
+    ensures runs { RunsToldAs (start MAX_SLOTS) (ended result) (S.left script.old) (K.held out.old) (K.held out.new) }
+    ensures script_cause { HasFaultCause (S.faults script.old) (S.faults script.new) result Stop.ScriptFault }
+    ensures out_cause { HasFaultCause (K.faults out.old) (K.faults out.new) result Stop.OutFault }
+{
+    let mut run = Run::new(alloc);
+    let mut buffer = zeros(alloc, PIECE)?;
+    take_pieces(alloc, &mut run, &mut buffer, script, out, moves)
+}
+
+// Takes the pieces of the script one after the other, each into the buffer.
+fn take_pieces<S: Source, K: Sink, L: Ledger>(
+    alloc: Global,
+    run: &mut Run,
+    buffer: &mut [u8],
+    script: &mut S,
+    out: &mut K,
+    moves: &mut Steps<L>,
+) -> Result<bool, Stop>
+    requires first { run.old ≡ first_run run.old.state }
+    requires room { length buffer.old ≡ PIECE }
+    requires script_ready { IsTrue (S.ready script.old) }
+    requires out_ready { IsTrue (K.ready out.old) }
+    ensures runs { RunsToldAs run.old.state (ended result) (S.left script.old) (K.held out.old) (K.held out.new) }
+    ensures script_cause { HasFaultCause (S.faults script.old) (S.faults script.new) result Stop.ScriptFault }
+    ensures out_cause { HasFaultCause (K.faults out.old) (K.faults out.new) result Stop.OutFault }
+{
+    let mut taken = 0;
+    'pieces: loop {
+        let piece = &mut buffer[..room_for(taken)];
+        let n = script.read(piece)?;
+        if n == 0 {
+            return run.finish(alloc, out, moves);
+        }
+        if taken == SCRIPT_LIMIT {
+            return Err(Stop::ScriptTooLong);
+        }
+        taken += n;
+        run.take_piece(alloc, &piece[..n], out, moves)?;
+    }
+}
+
+// How many bytes of the script may be read at once, after so many. After the last that a script may have,
+// one more byte is asked for, which tells a script that is too long.
+fn room_for(taken: usize) -> usize
+    ensures some { 0 < result }
+    ensures piece { result ≤ PIECE }
+    ensures limit { taken < SCRIPT_LIMIT → result ≤ SCRIPT_LIMIT - taken }
+{
+    if taken < SCRIPT_LIMIT {
+        PIECE.min(SCRIPT_LIMIT - taken)
+    } else {
+        1
+    }
+}
+
+// So many bytes of 0.
+fn zeros(alloc: Global, count: usize) -> Result<Vec<u8>, AllocError>
+    ensures { IfOk result (λ zeros. length zeros.items ≡ count) }
+{
+    vec![in alloc; 0; count]
+}
