@@ -1,0 +1,89 @@
+-- What is read of an input from the place on at which it stands.
+use Rattle.std.specs.Prelude.{◌≡◌, ◌+◌, ◌<◌, ◌≤◌, ◌++◌, false, List, [], ◌∷◌, ℕ, Option, Some, None, ⊤, length, take, drop, slice_get}
+use Rattle.std.specs.Option.{option_map}
+use Rattle.ld_words.specs.declared.input.Fill.{Fill}
+use Rattle.ld_words.specs.declared.input.Fill.TheVariants.{More, End, Past}
+use Rattle.ld_words.specs.declared.input.Input.{Input}
+use Rattle.ld_words.specs.declared.word.WordFault.{WordFault}
+use Rattle.ld_words.specs.declared.word.WordFault.TheVariants as fault
+use Rattle.ld_words.specs.declared.word.TheConstants.{TEXT_LIMIT}
+use Rattle.ld_words.specs.Reading.{Between, Place, Reading, done, faulty, is_blank, opens_comment, read, with_word}
+use Rattle.ld_words.specs.Told.{SameIfTold, ahead}
+
+-- what is read from the input's place on, where the source tells its bytes
+abbrev pub reading_at : {S : Type 0} → (S → Option (List ℕ)) → Place → Input S → Option Reading
+reading_at left place input =
+    option_map (λ l. read place input.line input.taken (input.window ++ l)) (left input.source)
+
+-- what is read where the first bytes at hand are a word with so many line feeds
+abbrev pub reading_with : {S : Type 0} → (S → Option (List ℕ)) → Input S → ℕ → ℕ → Option Reading
+reading_with left input count feeds =
+    option_map (λ l. with_word (record { bytes = take count input.window; line = input.line })
+        (read Between (input.line + feeds) (input.taken + count) (drop count input.window ++ l))) (left input.source)
+
+-- the reading is this fault; of want of memory and of a failed read it says nothing
+abbrev pub ShowsFault : Option Reading → WordFault → Type 0
+ShowsFault before (fault.OpenQuote line) = SameIfTold before (Some (faulty (fault.OpenQuote line)))
+ShowsFault before (fault.LongWord line) = SameIfTold before (Some (faulty (fault.LongWord line)))
+ShowsFault before (fault.TooLong line) = SameIfTold before (Some (faulty (fault.TooLong line)))
+ShowsFault before fault.ReadFault = ⊤
+ShowsFault before fault.Memory = ⊤
+
+-- the first bytes at hand were used up, and the line is later by so many
+pub record Moved {S : Type 0} (old new : Input S) (count feeds : ℕ) : Type 0 where
+  pub source : new.source ≡ old.source
+  pub window : new.window ≡ drop count old.window
+  pub taken : new.taken ≡ old.taken + count
+  pub line : new.line ≡ old.line + feeds
+
+-- the input stands where it stood
+pub record Stays {S : Type 0} (old new : Input S) : Type 0 where
+  pub taken : new.taken ≡ old.taken
+  pub line : new.line ≡ old.line
+
+-- more bytes are at hand
+pub record Grew {S : Type 0} (left : S → Option (List ℕ)) (old new : Input S) : Type 0 where
+  pub kept : take (length old.window) new.window ≡ old.window
+  pub grown : length old.window < length new.window
+  pub bytes : SameIfTold (ahead old.window (left old.source)) (ahead new.window (left new.source))
+
+-- the bytes at hand are the last ones
+pub record IsLast {S : Type 0} (left : S → Option (List ℕ)) (old new : Input S) : Type 0 where
+  pub window : new.window ≡ old.window
+  pub bytes : SameIfTold (ahead old.window (left old.source)) (Some old.window)
+  pub rest : SameIfTold (left old.source) (left new.source)
+
+-- after the bytes at hand, which are as many as a text may have, there is this one
+pub record IsPast {S : Type 0} (left : S → Option (List ℕ)) (old new : Input S) (byte : ℕ) : Type 0 where
+  pub window : new.window ≡ old.window
+  pub full : old.taken + length old.window ≡ TEXT_LIMIT
+  pub bytes : SameIfTold (ahead old.window (left old.source)) (ahead (old.window ++ byte ∷ []) (left new.source))
+
+-- what a read behind the bytes at hand gave
+abbrev pub Fills : {S : Type 0} → (S → Option (List ℕ)) → Input S → Input S → Fill → Type 0
+Fills left old new More = Grew left old new
+Fills left old new End = IsLast left old new
+Fills left old new (Past byte) = IsPast left old new byte
+
+-- the input stands at the first byte of a word
+pub record IsAtWord {S : Type 0} (left : S → Option (List ℕ)) (old new : Input S) (first : ℕ) : Type 0 where
+  pub reading : SameIfTold (reading_at left Between old) (reading_at left Between new)
+  pub first_is : slice_get new.window 0 ≡ Some first
+  pub no_blank : is_blank first ≡ false
+  pub no_comment : opens_comment first ≡ false
+
+-- there is no further word
+pub record IsAtEnd {S : Type 0} (left : S → Option (List ℕ)) (old new : Input S) : Type 0 where
+  pub reading : SameIfTold (reading_at left Between old) (reading_at left Between new)
+  pub ends : SameIfTold (reading_at left Between old) (Some (done new.line))
+
+-- where the input stands after blanks and comments
+abbrev pub ComesTo : {S : Type 0} → (S → Option (List ℕ)) → Input S → Input S → Option ℕ → Type 0
+ComesTo left old new None = IsAtEnd left old new
+ComesTo left old new (Some first) = IsAtWord left old new first
+
+-- the first bytes at hand are a word with so many line feeds
+pub record HasWord {S : Type 0} (left : S → Option (List ℕ)) (old new : Input S) (count feeds : ℕ) : Type 0 where
+  pub some : 0 < count
+  pub within : count ≤ length new.window
+  pub reading : SameIfTold (reading_at left Between old) (reading_with left new count feeds)

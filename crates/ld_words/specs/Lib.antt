@@ -1,0 +1,5 @@
+pub mod Told
+pub mod Reading
+pub mod Window
+pub mod Cause
+pub mod Input

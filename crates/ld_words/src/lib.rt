@@ -1,0 +1,8 @@
+//! The words of LEF and DEF texts with their lines, and decimals in database units.
+#![tactic(auto)]
+
+pub mod input;
+pub mod window;
+pub mod word;
+
+pub use word::{Word, WordFault};
