@@ -1,1 +1,5 @@
 pub mod Windows
+pub mod Places
+pub mod Runs
+pub mod Telling
+pub mod Ended

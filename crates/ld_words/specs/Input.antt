@@ -1,13 +1,14 @@
 -- What is read of an input from the place on at which it stands.
-use Rattle.std.specs.Prelude.{◌≡◌, ◌+◌, ◌<◌, ◌≤◌, ◌++◌, false, List, [], ◌∷◌, ℕ, Option, Some, None, ⊤, length, take, drop, slice_get}
+use Rattle.std.specs.Prelude.{◌≡◌, ◌+◌, ◌<◌, ◌≤◌, ◌++◌, false, true, List, [], ◌∷◌, ℕ, Option, Some, None, ⊤, length, take, drop, slice_get}
 use Rattle.std.specs.Option.{option_map}
 use Rattle.ld_words.specs.declared.input.Fill.{Fill}
 use Rattle.ld_words.specs.declared.input.Fill.TheVariants.{More, End, Past}
 use Rattle.ld_words.specs.declared.input.Input.{Input}
+use Rattle.ld_words.specs.declared.word.Word.{Word}
 use Rattle.ld_words.specs.declared.word.WordFault.{WordFault}
 use Rattle.ld_words.specs.declared.word.WordFault.TheVariants as fault
 use Rattle.ld_words.specs.declared.word.TheConstants.{TEXT_LIMIT}
-use Rattle.ld_words.specs.Reading.{Between, Place, Reading, done, faulty, is_blank, opens_comment, read, with_word}
+use Rattle.ld_words.specs.Reading.{Between, Place, Reading, done, faulty, is_blank, is_quote, opens_comment, read, with_word}
 use Rattle.ld_words.specs.Told.{SameIfTold, ahead}
 
 -- what is read from the input's place on, where the source tells its bytes
@@ -87,3 +88,23 @@ pub record HasWord {S : Type 0} (left : S → Option (List ℕ)) (old new : Inpu
   pub some : 0 < count
   pub within : count ≤ length new.window
   pub reading : SameIfTold (reading_at left Between old) (reading_with left new count feeds)
+
+-- the first byte opens a comment
+abbrev pub BeginsComment : List ℕ → Type 0
+BeginsComment [] = ⊥
+BeginsComment (b ∷ bytes) = opens_comment b ≡ true
+
+-- the first byte begins a plain word
+abbrev pub BeginsPlain : List ℕ → Type 0
+BeginsPlain [] = ⊥
+BeginsPlain (b ∷ bytes) = (is_blank b ≡ false) × (opens_comment b ≡ false) × (is_quote b ≡ false)
+
+-- the first byte begins a quoted word
+abbrev pub BeginsQuoted : List ℕ → Type 0
+BeginsQuoted [] = ⊥
+BeginsQuoted (b ∷ bytes) = is_quote b ≡ true
+
+-- the next word is this one, or there is none
+abbrev pub NextIs : {S : Type 0} → (S → Option (List ℕ)) → Input S → Input S → Option Word → Type 0
+NextIs left old new None = IsAtEnd left old new
+NextIs left old new (Some word) = SameIfTold (reading_at left Between old) (option_map (with_word word) (reading_at left Between new))

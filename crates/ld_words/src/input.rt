@@ -1,6 +1,7 @@
-ghost use Rattle.std.specs.Prelude.{◌≡◌, ◌+◌, ◌≤◌, [], false, IsTrue, IfOk, IfErr, List, Some, length, position, slice_get, take};
+ghost use Rattle.std.specs.Prelude.{◌≡◌, ◌+◌, ◌<◌, ◌≤◌, ◌↔◌, ◌==◌, ◌&&◌, [], false, true, if◌then◌else◌, IsTrue, IfErr, IfOk, IfSome, OnOk, OnSome, Some, length, nat_le, not, slice_get, take};
 ghost use Rattle.ld_words.specs.declared.word.TheConstants.{TEXT_LIMIT};
 
+use crate::scan::{blanks_in, feeds_in, first_blank, first_feed, first_quote, is_blank_byte};
 use crate::window::Window;
 use crate::word::{TEXT_LIMIT, WORD_LIMIT, Word, WordFault};
 use odb_base::Text;
@@ -34,8 +35,9 @@ pub struct Input<S> {
 impl<S: Source> Input<S> {
     ghost use Rattle.odb_outside.specs.Outside.{HasCause};
     ghost use Rattle.ld_words.specs.Cause.{HasReadCause, UnlessReadFault};
-    ghost use Rattle.ld_words.specs.Input.{Fills, Moved, Stays};
-    ghost use Rattle.ld_words.specs.Reading.{line_feeds};
+    ghost use Rattle.ld_words.specs.Input.{BeginsComment, BeginsPlain, BeginsQuoted, ComesTo, Fills, HasWord, Moved, NextIs, ShowsFault, Stays, reading_at};
+    ghost use Rattle.ld_words.specs.Reading.{Between, Comment, is_blank, line_feeds};
+    ghost use Rattle.ld_words.specs.Told.{SameIfTold, ahead};
 
     /// Uses up the first bytes at hand, which have so many line feeds.
     fn advance(&mut self, count: usize, feeds: usize)
@@ -53,6 +55,7 @@ impl<S: Source> Input<S> {
         requires ready { IsTrue (S.ready self.old.source) }
         requires room { length self.old.window ≤ WORD_LIMIT }
         ensures fills { IfOk result (Fills S.left self.old self.new) }
+        ensures fault { IfErr result (λ f. f ≡ WordFault.ReadFault) }
         ensures stays { Stays self.old self.new }
         ensures ready { UnlessReadFault result (IsTrue (S.ready self.new.source)) }
         ensures cause { HasReadCause (S.faults self.old.source) (S.faults self.new.source) result }
@@ -73,6 +76,7 @@ impl<S: Source> Input<S> {
         requires ready { IsTrue (S.ready self.old.source) }
         requires full { self.old.taken + length self.old.window ≡ TEXT_LIMIT }
         ensures fills { IfOk result (Fills S.left self.old self.new) }
+        ensures fault { IfErr result (λ f. f ≡ WordFault.ReadFault) }
         ensures stays { Stays self.old self.new }
         ensures ready { UnlessReadFault result (IsTrue (S.ready self.new.source)) }
         ensures cause { HasReadCause (S.faults self.old.source) (S.faults self.new.source) result }
@@ -83,6 +87,247 @@ impl<S: Source> Input<S> {
             Ok(0) => Ok(Fill::End),
             Ok(_) => Ok(Fill::Past(byte[0])),
             Err(_) => Err(WordFault::ReadFault),
+        }
+    }
+
+    fn first(&self) -> Option<u8>
+        ensures { result ≡ slice_get self.now.window 0 }
+    {
+        self.window.bytes().first().copied()
+    }
+
+    /// Uses up the first bytes at hand, none of which ends a line.
+    fn pass(&mut self, count: usize)
+        requires { count ≤ length self.old.window }
+        ensures { Moved self.old self.new count 0 }
+    {
+        self.advance(count, 0);
+    }
+
+    /// Uses up the first bytes at hand with the ends of lines among them.
+    fn pass_lines(&mut self, count: usize)
+        requires { count ≤ length self.old.window }
+        ensures { Moved self.old self.new count (line_feeds (take count self.old.window)) }
+    {
+        let feeds = feeds_in(&self.window.bytes()[..count]);
+        self.advance(count, feeds);
+    }
+
+    fn pass_blanks(&mut self)
+        ensures reading { reading_at S.left Between self.new ≡ reading_at S.left Between self.old }
+        ensures stops { IfSome (slice_get self.new.window 0) (λ b. is_blank b ≡ false) }
+        ensures taken { self.old.taken ≤ self.new.taken }
+        ensures source { self.new.source ≡ self.old.source }
+    {
+        let count = blanks_in(self.window.bytes());
+        self.pass_lines(count);
+    }
+
+    /// Whether there are more bytes, which are then at hand.
+    fn more(&mut self) -> Result<bool, WordFault>
+        requires ready { IsTrue (S.ready self.old.source) }
+        requires empty { self.old.window ≡ [] }
+        ensures more { IfOk result (λ is. IsTrue is ↔ (0 < length self.new.window)) }
+        ensures bytes { OnOk result (SameIfTold (S.left self.old.source) (ahead self.new.window (S.left self.new.source))) }
+        ensures end { IfOk result (λ is. is ≡ false → SameIfTold (S.left self.old.source) (Some [])) }
+        ensures fault { IfErr result (λ f. ShowsFault (reading_at S.left Between self.old) f × ShowsFault (reading_at S.left Comment self.old) f) }
+        ensures stays { Stays self.old self.new }
+        ensures ready { UnlessReadFault result (IsTrue (S.ready self.new.source)) }
+        ensures cause { HasReadCause (S.faults self.old.source) (S.faults self.new.source) result }
+        ensures rest { S.rest self.new.source ≡ S.rest self.old.source }
+    {
+        match self.fill()? {
+            Fill::More => Ok(true),
+            Fill::End => Ok(false),
+            Fill::Past(_) => Err(WordFault::TooLong { line: self.line }),
+        }
+    }
+
+    /// Uses up the comment that begins at the first byte at hand, to the end of its line.
+    fn pass_comment(&mut self) -> Result<(), WordFault>
+        requires ready { IsTrue (S.ready self.old.source) }
+        requires begins { BeginsComment self.old.window }
+        ensures reading { OnOk result (SameIfTold (reading_at S.left Between self.old) (reading_at S.left Between self.new)) }
+        ensures fault { IfErr result (ShowsFault (reading_at S.left Between self.old)) }
+        ensures taken { self.old.taken < self.new.taken }
+        ensures ready { UnlessReadFault result (IsTrue (S.ready self.new.source)) }
+        ensures cause { HasReadCause (S.faults self.old.source) (S.faults self.new.source) result }
+        ensures rest { S.rest self.new.source ≡ S.rest self.old.source }
+    {
+        'comment: loop {
+            if let Some(count) = first_feed(self.window.bytes()) {
+                self.pass(count);
+                return Ok(());
+            }
+            let held = self.window.bytes().len();
+            self.pass(held);
+            if !self.more()? {
+                return Ok(());
+            }
+        }
+    }
+
+    /// Uses up blanks and comments, to the first byte of a word, which it answers, or to the end of the text.
+    fn first_of_word(&mut self) -> Result<Option<u8>, WordFault>
+        requires ready { IsTrue (S.ready self.old.source) }
+        ensures comes { IfOk result (ComesTo S.left self.old self.new) }
+        ensures fault { IfErr result (ShowsFault (reading_at S.left Between self.old)) }
+        ensures taken { self.old.taken ≤ self.new.taken }
+        ensures ready { UnlessReadFault result (IsTrue (S.ready self.new.source)) }
+        ensures cause { HasReadCause (S.faults self.old.source) (S.faults self.new.source) result }
+        ensures rest { S.rest self.new.source ≡ S.rest self.old.source }
+    {
+        'seeking: loop {
+            self.pass_blanks();
+            match self.first() {
+                Some(b'#') => self.pass_comment()?,
+                Some(first) => return Ok(Some(first)),
+                None => {
+                    if !self.more()? {
+                        return Ok(None);
+                    }
+                }
+            }
+        }
+    }
+
+    /// The length of the plain word that begins at the first byte at hand, all of it at hand.
+    fn plain_length(&mut self) -> Result<usize, WordFault>
+        requires ready { IsTrue (S.ready self.old.source) }
+        requires begins { BeginsPlain self.old.window }
+        ensures word { IfOk result (λ n. HasWord S.left self.old self.new n 0) }
+        ensures fault { IfErr result (ShowsFault (reading_at S.left Between self.old)) }
+        ensures stays { Stays self.old self.new }
+        ensures ready { UnlessReadFault result (IsTrue (S.ready self.new.source)) }
+        ensures cause { HasReadCause (S.faults self.old.source) (S.faults self.new.source) result }
+        ensures rest { S.rest self.new.source ≡ S.rest self.old.source }
+    {
+        let mut seen = 0;
+        'plain: loop {
+            let bytes = self.window.bytes();
+            let held = bytes.len();
+            if let Some(more) = first_blank(&bytes[seen..]) {
+                return self.fitting(seen + more);
+            }
+            if held > WORD_LIMIT {
+                return Err(WordFault::LongWord { line: self.line });
+            }
+            seen = held;
+            match self.fill()? {
+                Fill::More => {}
+                Fill::End => return Ok(held),
+                Fill::Past(byte) => return Err(self.past_plain(byte)),
+            }
+        }
+    }
+
+    /// The length of a word, unless it is too long.
+    fn fitting(&self, length: usize) -> Result<usize, WordFault>
+        ensures { result ≡ (if nat_le length WORD_LIMIT then Ok length else Err (WordFault.LongWord self.now.line)) }
+    {
+        if length <= WORD_LIMIT {
+            Ok(length)
+        } else {
+            Err(WordFault::LongWord { line: self.line })
+        }
+    }
+
+    /// What is wrong where this byte, one too many for a text, comes after a plain word at hand.
+    fn past_plain(&self, byte: u8) -> WordFault
+        ensures { result ≡ (if not (is_blank byte) && length self.now.window == WORD_LIMIT
+            then WordFault.LongWord self.now.line else WordFault.TooLong self.now.line) }
+    {
+        if !is_blank_byte(byte) && self.window.bytes().len() == WORD_LIMIT {
+            WordFault::LongWord { line: self.line }
+        } else {
+            WordFault::TooLong { line: self.line }
+        }
+    }
+
+    /// The length of the quoted word that begins at the first byte at hand, all of it at hand.
+    fn quoted_length(&mut self) -> Result<usize, WordFault>
+        requires ready { IsTrue (S.ready self.old.source) }
+        requires begins { BeginsQuoted self.old.window }
+        ensures word { IfOk result (λ n. HasWord S.left self.old self.new n (line_feeds (take n self.new.window))) }
+        ensures fault { IfErr result (ShowsFault (reading_at S.left Between self.old)) }
+        ensures stays { Stays self.old self.new }
+        ensures ready { UnlessReadFault result (IsTrue (S.ready self.new.source)) }
+        ensures cause { HasReadCause (S.faults self.old.source) (S.faults self.new.source) result }
+        ensures rest { S.rest self.new.source ≡ S.rest self.old.source }
+    {
+        let mut seen = 1;
+        'quoted: loop {
+            let bytes = self.window.bytes();
+            let held = bytes.len();
+            if let Some(more) = first_quote(&bytes[seen..]) {
+                return self.fitting(seen + more + 1);
+            }
+            if held > WORD_LIMIT {
+                return Err(WordFault::LongWord { line: self.line });
+            }
+            seen = held;
+            match self.fill()? {
+                Fill::More => {}
+                Fill::End => return Err(WordFault::OpenQuote { line: self.line }),
+                Fill::Past(_) => return Err(self.past_quoted()),
+            }
+        }
+    }
+
+    /// What is wrong where one byte too many for a text comes after the quoted bytes at hand.
+    fn past_quoted(&self) -> WordFault
+        ensures { result ≡ (if length self.now.window == WORD_LIMIT
+            then WordFault.LongWord self.now.line else WordFault.TooLong (self.now.line + line_feeds self.now.window)) }
+    {
+        let bytes = self.window.bytes();
+        if bytes.len() == WORD_LIMIT {
+            WordFault::LongWord { line: self.line }
+        } else {
+            WordFault::TooLong {
+                line: self.line + feeds_in(bytes) as u64,
+            }
+        }
+    }
+
+    /// The first bytes at hand as a word, in its own memory.
+    fn word(&self, alloc: Global, count: usize) -> Result<Word, WordFault>
+        requires { count ≤ length self.now.window }
+        ensures word { IfOk result (λ word. word ≡ record { bytes = take count self.now.window; line = self.now.line }) }
+        ensures memory { IfErr result (λ f. f ≡ WordFault.Memory) }
+    {
+        match Text::new(alloc, &self.window.bytes()[..count]) {
+            Ok(bytes) => Ok(Word {
+                bytes,
+                line: self.line,
+            }),
+            Err(AllocError) => Err(WordFault::Memory),
+        }
+    }
+
+    /// The next word, or none at the end of the text.
+    pub fn next(&mut self, alloc: Global) -> Result<Option<Word>, WordFault>
+        requires ready { IsTrue (S.ready self.old.source) }
+        ensures word { IfOk result (NextIs S.left self.old self.new) }
+        ensures fault { IfErr result (ShowsFault (reading_at S.left Between self.old)) }
+        ensures falls { IfOk result (λ o. OnSome o (self.old.taken < self.new.taken)) }
+        ensures ready { UnlessReadFault result (IsTrue (S.ready self.new.source)) }
+        ensures cause { HasReadCause (S.faults self.old.source) (S.faults self.new.source) result }
+        ensures rest { S.rest self.new.source ≡ S.rest self.old.source }
+    {
+        match self.first_of_word()? {
+            None => Ok(None),
+            Some(b'"') => {
+                let count = self.quoted_length()?;
+                let word = self.word(alloc, count)?;
+                self.pass_lines(count);
+                Ok(Some(word))
+            }
+            Some(_) => {
+                let count = self.plain_length()?;
+                let word = self.word(alloc, count)?;
+                self.pass(count);
+                Ok(Some(word))
+            }
         }
     }
 }

@@ -2,6 +2,7 @@
 #![tactic(auto)]
 
 pub mod input;
+pub mod scan;
 pub mod window;
 pub mod word;
 
