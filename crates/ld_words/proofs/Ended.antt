@@ -11,8 +11,8 @@ use Rattle.ld_words.specs.declared.word.WordFault.TheVariants as fault
 use Rattle.ld_words.specs.declared.word.TheConstants.{TEXT_LIMIT, WORD_LIMIT}
 use Rattle.ld_words.specs.Input.{BeginsComment, BeginsPlain, BeginsQuoted}
 use Rattle.ld_words.specs.Reading.{Between, Comment, Ends, Goes, Long, Place, Plain, Quoted, Reading, done, faulty, is_blank, is_line_feed, is_quote, line_after, line_feeds, longer, opens_comment, read, reading_of, with_word, word_on}
-use Rattle.ld_words.proofs.Places.{both, front-shorter}
-use Rattle.ld_words.proofs.Runs.{denied, line_feeds-cons, read-blanks, read-comment, read-plain, read-quoted, same_place}
+use Rattle.ld_words.proofs.Places.{both, denied, front-shorter}
+use Rattle.ld_words.proofs.Runs.{line_feeds-cons, read-blanks, read-comment, read-plain, read-quoted, same_place}
 
 -- the first bytes, and then the others with what is left
 split_at : (n : ℕ) (hand l : List ℕ) → hand ++ l ≡ take n hand ++ (drop n hand ++ l)

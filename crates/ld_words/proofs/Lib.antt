@@ -3,3 +3,4 @@ pub mod Places
 pub mod Runs
 pub mod Telling
 pub mod Ended
+pub mod Between

@@ -1,5 +1,5 @@
 -- Where the first byte stands that passes a test, and what stands before it.
-use Rattle.std.proofs.Common.{◌≡◌, ℕ, suc, ◌+◌, ◌≤◌, ◌<◌, Bool, true, false, not, cond, ◌&&◌, List, [], ◌∷◌, ◌++◌, Option, Some, None, length, take, drop, get_or, ltb, position, refl, sym, ap, ◌∙◌, arith, take-add, zero}
+use Rattle.std.proofs.Common.{◌≡◌, ℕ, suc, ◌+◌, ◌≤◌, ◌<◌, Bool, true, false, not, cond, ◌&&◌, List, [], ◌∷◌, ◌++◌, Option, Some, None, length, take, drop, get_or, ltb, position, slice_get, IfSome, refl, sym, ap, ◌∙◌, arith, take-add, zero}
 use Rattle.std.proofs.lemmas.Bool.Decides.{nat_tests}
 use Rattle.std.proofs.lemmas.List.Folds.{list_all-append}
 use Rattle.std.proofs.lemmas.List.Sums.{prefix_len-le-length, passes_at_first}
@@ -45,3 +45,22 @@ front-shorter p (suc m) (suc n) (x ∷ xs) le h =
 -- the front that passed, and then as many more as pass
 pub front_longer : (p : ℕ → Bool) (n m : ℕ) (xs : List ℕ) → list_all p (take n xs) ≡ true → list_all p (take m (drop n xs)) ≡ true → list_all p (take (n + m) xs) ≡ true
 front_longer p n m xs h k = rw (take-add, list_all-append, h, k) refl
+
+-- the byte behind those before it passes
+pub first_passes : (p : ℕ → Bool) (xs : List ℕ) → IfSome (slice_get (drop (position_or_len p xs) xs) 0) (λ x. p x ≡ true)
+first_passes p [] = tt
+first_passes p (x ∷ xs) =
+    elim (p x) as (λ b. p x ≡ b → IfSome (slice_get (drop (cond (not b) (1 + position_or_len p xs) 0) (x ∷ xs)) 0) (λ y. p y ≡ true)) [
+      | true ↦ λ e. e
+      | false ↦ λ e. rw (one-add (position_or_len p xs)) (first_passes p xs)
+    ] refl
+
+-- a negated test
+pub denied : (a : Bool) → not a ≡ true → a ≡ false
+denied true h = cc
+denied false h = refl
+
+-- a negated test of what there is
+pub denied_if : (p : ℕ → Bool) (o : Option ℕ) → IfSome o (λ x. not (p x) ≡ true) → IfSome o (λ x. p x ≡ false)
+denied_if p None h = tt
+denied_if p (Some x) h = denied (p x) h

@@ -8,18 +8,13 @@ use Rattle.std.specs.List.{list_all}
 use Rattle.ld_words.specs.declared.word.Word.{Word}
 use Rattle.ld_words.specs.declared.word.WordFault.TheVariants as fault
 use Rattle.ld_words.specs.declared.word.TheConstants.{TEXT_LIMIT, WORD_LIMIT}
-use Rattle.ld_words.proofs.Places.{both}
+use Rattle.ld_words.proofs.Places.{both, denied}
 use Rattle.ld_words.specs.Reading.{Between, Comment, Place, Plain, Quoted, Reading, faulty, is_blank, is_line_feed, is_quote, line_after, line_feeds, read, with_word}
 
 -- neither test holds
 neither : (a b : Bool) → (a || b) ≡ false → (a ≡ false) × (b ≡ false)
 neither true b h = cc
 neither false b h = (refl, h)
-
--- a negated test
-pub denied : (a : Bool) → not a ≡ true → a ≡ false
-denied true h = cc
-denied false h = refl
 
 -- a number below another is not it
 differs : (n m : ℕ) → n < m → eqb n m ≡ false

@@ -2,6 +2,9 @@
 use Rattle.std.proofs.Common.{◌≡◌, ℕ, List, [], ◌++◌, Option, Some, None, refl, sym, ap, ◌∙◌}
 use Rattle.std.proofs.lemmas.List.{append-nil, append_cancel_left}
 use Rattle.std.specs.Option.{option_map}
+use Rattle.ld_words.specs.declared.word.WordFault.{WordFault}
+use Rattle.ld_words.specs.declared.word.WordFault.TheVariants as fault
+use Rattle.ld_words.specs.Input.{ShowsFault}
 use Rattle.ld_words.specs.Reading.{Reading}
 use Rattle.ld_words.specs.Told.{SameIfTold, ahead}
 
@@ -50,3 +53,15 @@ read_to_end f g hand (Some a) None h same e = absurd same
 read_to_end f g hand (Some a) (Some b) h same e =
     let none : [] ≡ a = append_cancel_left hand [] a (append-nil hand ∙ h) in
     ap g (same ∙ sym none) ∙ e ∙ ap f h
+
+-- one reading by two names
+pub same_by : {A : Type 0} (a b : Option A) → b ≡ a → SameIfTold a b
+same_by a b e = rw e (same_self a)
+
+-- a fault of the rest is a fault of the whole
+pub shows_on : (a b : Option Reading) (f : WordFault) → SameIfTold a b → ShowsFault b f → ShowsFault a f
+shows_on a b (fault.OpenQuote line) h k = same_on a b _ h k
+shows_on a b (fault.LongWord line) h k = same_on a b _ h k
+shows_on a b (fault.TooLong line) h k = same_on a b _ h k
+shows_on a b fault.ReadFault h k = tt
+shows_on a b fault.Memory h k = tt

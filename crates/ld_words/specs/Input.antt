@@ -1,5 +1,5 @@
 -- What is read of an input from the place on at which it stands.
-use Rattle.std.specs.Prelude.{◌≡◌, ◌+◌, ◌<◌, ◌≤◌, ◌++◌, false, true, List, [], ◌∷◌, ℕ, Option, Some, None, ⊤, length, take, drop, slice_get}
+use Rattle.std.specs.Prelude.{◌≡◌, ◌+◌, ◌<◌, ◌≤◌, ◌++◌, Bool, false, true, List, [], ◌∷◌, ℕ, Option, Some, None, ⊤, length, take, drop, slice_get}
 use Rattle.std.specs.Option.{option_map}
 use Rattle.ld_words.specs.declared.input.Fill.{Fill}
 use Rattle.ld_words.specs.declared.input.Fill.TheVariants.{More, End, Past}
@@ -8,7 +8,7 @@ use Rattle.ld_words.specs.declared.word.Word.{Word}
 use Rattle.ld_words.specs.declared.word.WordFault.{WordFault}
 use Rattle.ld_words.specs.declared.word.WordFault.TheVariants as fault
 use Rattle.ld_words.specs.declared.word.TheConstants.{TEXT_LIMIT}
-use Rattle.ld_words.specs.Reading.{Between, Place, Reading, done, faulty, is_blank, is_quote, opens_comment, read, with_word}
+use Rattle.ld_words.specs.Reading.{Between, Comment, Place, Reading, done, faulty, is_blank, is_quote, opens_comment, read, with_word}
 use Rattle.ld_words.specs.Told.{SameIfTold, ahead}
 
 -- what is read from the input's place on, where the source tells its bytes
@@ -65,6 +65,22 @@ abbrev pub Fills : {S : Type 0} → (S → Option (List ℕ)) → Input S → In
 Fills left old new More = Grew left old new
 Fills left old new End = IsLast left old new
 Fills left old new (Past byte) = IsPast left old new byte
+
+-- more bytes came to hand
+pub record Continues {S : Type 0} (left : S → Option (List ℕ)) (old new : Input S) : Type 0 where
+  pub some : 0 < length new.window
+  pub reading : (place : Place) → SameIfTold (reading_at left place old) (reading_at left place new)
+
+-- the text has ended, in a comment or not
+pub record Finishes {S : Type 0} (left : S → Option (List ℕ)) (old new : Input S) : Type 0 where
+  pub reading : SameIfTold (reading_at left Between old) (reading_at left Between new)
+  pub comment : SameIfTold (reading_at left Comment old) (reading_at left Between new)
+  pub ends : SameIfTold (reading_at left Between old) (Some (done new.line))
+
+-- whether more bytes came to hand
+abbrev pub GoesOn : {S : Type 0} → (S → Option (List ℕ)) → Input S → Input S → Bool → Type 0
+GoesOn left old new true = Continues left old new
+GoesOn left old new false = Finishes left old new
 
 -- the input stands at the first byte of a word
 pub record IsAtWord {S : Type 0} (left : S → Option (List ℕ)) (old new : Input S) (first : ℕ) : Type 0 where

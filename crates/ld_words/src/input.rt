@@ -35,9 +35,9 @@ pub struct Input<S> {
 impl<S: Source> Input<S> {
     ghost use Rattle.odb_outside.specs.Outside.{HasCause};
     ghost use Rattle.ld_words.specs.Cause.{HasReadCause, UnlessReadFault};
-    ghost use Rattle.ld_words.specs.Input.{BeginsComment, BeginsPlain, BeginsQuoted, ComesTo, Fills, HasWord, Moved, NextIs, ShowsFault, Stays, reading_at};
+    ghost use Rattle.ld_words.specs.Input.{BeginsComment, BeginsPlain, BeginsQuoted, ComesTo, Fills, GoesOn, HasWord, Moved, NextIs, ShowsFault, Stays, reading_at};
     ghost use Rattle.ld_words.specs.Reading.{Between, Comment, is_blank, line_feeds};
-    ghost use Rattle.ld_words.specs.Told.{SameIfTold, ahead};
+    ghost use Rattle.ld_words.specs.Told.{SameIfTold};
 
     /// Uses up the first bytes at hand, which have so many line feeds.
     fn advance(&mut self, count: usize, feeds: usize)
@@ -117,6 +117,7 @@ impl<S: Source> Input<S> {
         ensures reading { reading_at S.left Between self.new ≡ reading_at S.left Between self.old }
         ensures stops { IfSome (slice_get self.new.window 0) (λ b. is_blank b ≡ false) }
         ensures taken { self.old.taken ≤ self.new.taken }
+        ensures at_hand { self.old.taken + length self.old.window ≤ self.new.taken + length self.new.window }
         ensures source { self.new.source ≡ self.old.source }
     {
         let count = blanks_in(self.window.bytes());
@@ -127,9 +128,7 @@ impl<S: Source> Input<S> {
     fn more(&mut self) -> Result<bool, WordFault>
         requires ready { IsTrue (S.ready self.old.source) }
         requires empty { self.old.window ≡ [] }
-        ensures more { IfOk result (λ is. IsTrue is ↔ (0 < length self.new.window)) }
-        ensures bytes { OnOk result (SameIfTold (S.left self.old.source) (ahead self.new.window (S.left self.new.source))) }
-        ensures end { IfOk result (λ is. is ≡ false → SameIfTold (S.left self.old.source) (Some [])) }
+        ensures goes { IfOk result (GoesOn S.left self.old self.new) }
         ensures fault { IfErr result (λ f. ShowsFault (reading_at S.left Between self.old) f × ShowsFault (reading_at S.left Comment self.old) f) }
         ensures stays { Stays self.old self.new }
         ensures ready { UnlessReadFault result (IsTrue (S.ready self.new.source)) }
@@ -150,16 +149,19 @@ impl<S: Source> Input<S> {
         ensures reading { OnOk result (SameIfTold (reading_at S.left Between self.old) (reading_at S.left Between self.new)) }
         ensures fault { IfErr result (ShowsFault (reading_at S.left Between self.old)) }
         ensures taken { self.old.taken < self.new.taken }
+        ensures at_hand { self.old.taken + length self.old.window ≤ self.new.taken + length self.new.window }
         ensures ready { UnlessReadFault result (IsTrue (S.ready self.new.source)) }
         ensures cause { HasReadCause (S.faults self.old.source) (S.faults self.new.source) result }
         ensures rest { S.rest self.new.source ≡ S.rest self.old.source }
     {
+        self.pass(1);
         'comment: loop {
-            if let Some(count) = first_feed(self.window.bytes()) {
+            let bytes = self.window.bytes();
+            let held = bytes.len();
+            if let Some(count) = first_feed(bytes) {
                 self.pass(count);
                 return Ok(());
             }
-            let held = self.window.bytes().len();
             self.pass(held);
             if !self.more()? {
                 return Ok(());
@@ -255,17 +257,17 @@ impl<S: Source> Input<S> {
         ensures cause { HasReadCause (S.faults self.old.source) (S.faults self.new.source) result }
         ensures rest { S.rest self.new.source ≡ S.rest self.old.source }
     {
-        let mut seen = 1;
+        let mut seen = 0;
         'quoted: loop {
             let bytes = self.window.bytes();
             let held = bytes.len();
-            if let Some(more) = first_quote(&bytes[seen..]) {
-                return self.fitting(seen + more + 1);
+            if let Some(more) = first_quote(&bytes[1 + seen..]) {
+                return self.fitting(1 + seen + more + 1);
             }
             if held > WORD_LIMIT {
                 return Err(WordFault::LongWord { line: self.line });
             }
-            seen = held;
+            seen = held - 1;
             match self.fill()? {
                 Fill::More => {}
                 Fill::End => return Err(WordFault::OpenQuote { line: self.line }),
