@@ -4,3 +4,4 @@ pub mod Runs
 pub mod Telling
 pub mod Ended
 pub mod Between
+pub mod AtHand

@@ -1,6 +1,7 @@
 -- Where the first byte stands that passes a test, and what stands before it.
 use Rattle.std.proofs.Common.{◌≡◌, ℕ, suc, ◌+◌, ◌≤◌, ◌<◌, Bool, true, false, not, cond, ◌&&◌, List, [], ◌∷◌, ◌++◌, Option, Some, None, length, take, drop, get_or, ltb, position, slice_get, IfSome, refl, sym, ap, ◌∙◌, arith, take-add, zero}
 use Rattle.std.proofs.lemmas.Bool.Decides.{nat_tests}
+use Rattle.std.proofs.lemmas.List.{get_or-drop, take_all, take-append-drop, length-drop}
 use Rattle.std.proofs.lemmas.List.Folds.{list_all-append}
 use Rattle.std.proofs.lemmas.List.Sums.{prefix_len-le-length, passes_at_first}
 use Rattle.std.specs.List.{list_all, position_or_len, prefix_len}
@@ -64,3 +65,31 @@ denied false h = refl
 pub denied_if : (p : ℕ → Bool) (o : Option ℕ) → IfSome o (λ x. not (p x) ≡ true) → IfSome o (λ x. p x ≡ false)
 denied_if p None h = tt
 denied_if p (Some x) h = denied (p x) h
+
+-- no byte behind those that were seen passes, so none does
+pub none_passes : (q : ℕ → Bool) (seen : ℕ) (xs rest : List ℕ) → rest ≡ drop seen xs → position q rest ≡ None
+    → list_all (λ x. not (q x)) (take seen xs) ≡ true → list_all (λ x. not (q x)) xs ≡ true
+none_passes q seen xs rest is none front =
+    let p : ℕ → Bool = λ x. not (q x) in
+    let all : prefix_len p rest ≡ length rest = position_none q rest none in
+    let back : list_all p rest ≡ true = rw (← take_all (length rest) rest (omega arith), ← all) (front-passes p rest) in
+    rw (← take-append-drop seen xs, list_all-append, front, ← is, back) refl
+
+-- the first byte that passes behind those that were seen
+pub record IsFound (q : ℕ → Bool) (xs : List ℕ) (place : ℕ) : Type 0 where
+  pub within : place < length xs
+  pub front : list_all (λ x. not (q x)) (take place xs) ≡ true
+  pub passes : q (get_or xs place 0) ≡ true
+
+pub first_found : (q : ℕ → Bool) (seen more : ℕ) (xs rest : List ℕ) → rest ≡ drop seen xs → position q rest ≡ Some more
+    → list_all (λ x. not (q x)) (take seen xs) ≡ true → IsFound q xs (seen + more)
+first_found q seen more xs rest is some front =
+    let p : ℕ → Bool = λ x. not (q x) in
+    let place = position_some q rest more some in
+    let back : list_all p (take more (drop seen xs)) ≡ true = rw (← is, ← place.0) (front-passes p rest) in
+    let at : q (get_or rest more 0) ≡ true = rw (sym place.0) (passes_at_first q rest 0 (rw place.0 place.1)) in
+    record {
+      within = omega (arith, place.1, ap length is, length-drop seen xs);
+      front = front_longer p seen more xs front back;
+      passes = rw (← get_or-drop seen xs more 0, ← is) at;
+    }

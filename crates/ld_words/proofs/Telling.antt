@@ -1,11 +1,11 @@
 -- What is read where a source tells its bytes, as the bytes at hand become more.
-use Rattle.std.proofs.Common.{◌≡◌, ℕ, List, [], ◌++◌, Option, Some, None, refl, sym, ap, ◌∙◌}
+use Rattle.std.proofs.Common.{◌≡◌, ℕ, Bool, true, false, cond, List, [], ◌++◌, Option, Some, None, refl, sym, ap, ◌∙◌}
 use Rattle.std.proofs.lemmas.List.{append-nil, append_cancel_left}
 use Rattle.std.specs.Option.{option_map}
 use Rattle.ld_words.specs.declared.word.WordFault.{WordFault}
 use Rattle.ld_words.specs.declared.word.WordFault.TheVariants as fault
 use Rattle.ld_words.specs.Input.{ShowsFault}
-use Rattle.ld_words.specs.Reading.{Reading}
+use Rattle.ld_words.specs.Reading.{Reading, faulty}
 use Rattle.ld_words.specs.Told.{SameIfTold, ahead}
 
 -- told before a step and after it
@@ -65,3 +65,14 @@ shows_on a b (fault.LongWord line) h k = same_on a b _ h k
 shows_on a b (fault.TooLong line) h k = same_on a b _ h k
 shows_on a b fault.ReadFault h k = tt
 shows_on a b fault.Memory h k = tt
+
+-- a reading that is known whatever is left
+pub known_by : (f : List ℕ → Reading) (r : Reading) (o : Option (List ℕ)) → ((l : List ℕ) → r ≡ f l) → SameIfTold (option_map f o) (Some r)
+known_by f r None all = tt
+known_by f r (Some l) all = all l
+
+-- one of two faults
+pub shows_either : (a : Option Reading) (b : Bool) (line line' : ℕ) → SameIfTold a (Some (faulty (cond b (fault.LongWord line) (fault.TooLong line'))))
+    → ShowsFault a (cond b (fault.LongWord line) (fault.TooLong line'))
+shows_either a true line line' h = h
+shows_either a false line line' h = h

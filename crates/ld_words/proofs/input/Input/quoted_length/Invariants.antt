@@ -2,9 +2,9 @@
 use Rattle.std.proofs.Common.{◌≡◌, ◌+◌, ◌-◌, ◌≤◌, IsTrue, true, not, length, take, drop}
 use Rattle.std.specs.List.{list_all}
 use Rattle.ld_words.specs.declared.word.TheConstants.{TEXT_LIMIT}
-use Rattle.ld_words.specs.Input.{BeginsQuoted, Stays}
-use Rattle.ld_words.specs.Reading.{is_quote}
-use Rattle.ld_words.specs.Told.{SameIfTold, ahead}
+use Rattle.ld_words.specs.Input.{BeginsQuoted, Stays, reading_at}
+use Rattle.ld_words.specs.Reading.{Between, is_quote}
+use Rattle.ld_words.specs.Told.{SameIfTold}
 use Rattle.ld_words.proofs.input.Input.quoted_length.Given as goal
 
 abbrev pub invariant-quoted : goal.invariant-quoted
@@ -14,7 +14,7 @@ invariant-quoted g l =
       begins : BeginsQuoted l.self.window;
       within : l.seen + 1 ≤ length l.self.window;
       quoted : list_all (λ b. not (is_quote b)) (take l.seen (drop 1 l.self.window)) ≡ true;
-      bytes : SameIfTold (ahead l.fn.self.window (source.left l.fn.self.source)) (ahead l.self.window (source.left l.self.source));
+      reading : SameIfTold (reading_at source.left Between l.fn.self) (reading_at source.left Between l.self);
       stays : Stays l.fn.self l.self;
       ready : IsTrue (source.ready l.self.source);
       later : source.faults l.fn.self.source ≤ source.faults l.self.source;
