@@ -1,5 +1,5 @@
 -- What a source has to do with an answer.
-use Rattle.std.specs.Prelude.{◌≡◌, ◌≤◌, ℕ, Result, Ok, Err, IsErrOf, ⊤}
+use Rattle.std.specs.Prelude.{◌≡◌, ◌≤◌, Bool, true, false, ℕ, Option, Some, None, Result, Ok, Err, IsErrOf, ⊤}
 use Rattle.odb_outside.specs.Outside.{Rose}
 use Rattle.ld_words.specs.declared.word.WordFault.{WordFault}
 use Rattle.ld_words.specs.declared.word.WordFault.TheVariants as fault
@@ -17,3 +17,12 @@ UnlessReadFault (Err (fault.LongWord line)) P = P
 UnlessReadFault (Err (fault.TooLong line)) P = P
 UnlessReadFault (Err fault.ReadFault) P = ⊤
 UnlessReadFault (Err fault.Memory) P = P
+
+-- the fault that is kept is that a read failed
+abbrev pub is_read_fault : Option WordFault → Bool
+is_read_fault None = false
+is_read_fault (Some (fault.OpenQuote line)) = false
+is_read_fault (Some (fault.LongWord line)) = false
+is_read_fault (Some (fault.TooLong line)) = false
+is_read_fault (Some fault.ReadFault) = true
+is_read_fault (Some fault.Memory) = false

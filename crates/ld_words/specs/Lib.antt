@@ -3,3 +3,4 @@ pub mod Reading
 pub mod Window
 pub mod Cause
 pub mod Input
+pub mod Words

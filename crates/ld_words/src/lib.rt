@@ -5,5 +5,7 @@ pub mod input;
 pub mod scan;
 pub mod window;
 pub mod word;
+pub mod words;
 
 pub use word::{Word, WordFault};
+pub use words::Words;

@@ -1,0 +1,98 @@
+ghost use Rattle.std.specs.Prelude.{◌≡◌, ◌<◌, ◌≤◌, None, Some, Err, false, IfOk, IsErrOf, IsTrue, OnSome};
+ghost use Rattle.std.specs.Option.{option_map};
+ghost use Rattle.std.specs.Result.{result_err};
+ghost use Rattle.odb_outside.specs.Outside.{Rose};
+ghost use Rattle.ld_words.specs.Cause.{UnlessReadFault, is_read_fault};
+
+use crate::input::Input;
+use crate::window::Window;
+use crate::word::{Word, WordFault};
+use odb_outside::Source;
+use std::alloc::{AllocError, Global};
+
+/// The words of a text, read from a source one after the other.
+#[derive(Drop)]
+pub struct Words<S: Source + Drop> {
+    input: Input<S>,
+    alloc: Global,
+    fault: Option<WordFault>,
+    ghost ready: { is_read_fault fault ≡ false → IsTrue (S.ready input.source) },
+}
+
+impl<S: Source + Drop> Words<S> {
+    ghost use Rattle.ld_words.specs.Reading.{words_of};
+    ghost use Rattle.ld_words.specs.Words.{GivesWord, fault_of, line_of, reading_left, room_of, source_of};
+
+    /// Stands before the first word of the bytes that the source has left, on line 1.
+    pub fn new(alloc: Global, source: S) -> Result<Words<S>, AllocError>
+        requires { IsTrue (S.ready source) }
+        ensures words { IfOk result (λ words. reading_left words ≡ option_map words_of (S.left source)) }
+        ensures line { IfOk result (λ words. line_of words ≡ 1) }
+        ensures fault { IfOk result (λ words. fault_of words ≡ None) }
+        ensures source { IfOk result (λ words. source_of words ≡ source) }
+    {
+        Ok(Words {
+            input: Input {
+                source,
+                window: Window::new(alloc)?,
+                line: 1,
+                taken: 0,
+            },
+            alloc,
+            fault: None,
+        })
+    }
+
+    /// The next word, or `None` at the end of the text. A fault is answered from then on.
+    pub fn next(&mut self) -> Result<Option<Word>, WordFault>
+        ensures words { GivesWord (reading_left self.old) (reading_left self.new) (line_of self.new) result }
+        ensures falls { IfOk result (λ o. OnSome o (room_of self.new < room_of self.old)) }
+
+        // The fault that was answered is kept, and nothing changes after it.
+        ensures fault { fault_of self.new ≡ result_err result }
+        ensures kept { (f : WordFault) → fault_of self.old ≡ Some f → (result ≡ Err f) × (self.new ≡ self.old) }
+
+        // A read fails only where the source counted a fault.
+        ensures failed { IsErrOf result WordFault.ReadFault → fault_of self.old ≡ None → Rose (S.faults (source_of self.old)) (S.faults (source_of self.new)) }
+        ensures later { S.faults (source_of self.old) ≤ S.faults (source_of self.new) }
+        ensures ready { UnlessReadFault result (IsTrue (S.ready (source_of self.new))) }
+        ensures rest { S.rest (source_of self.new) ≡ S.rest (source_of self.old) }
+    {
+        if let Some(fault) = self.fault {
+            return Err(fault);
+        }
+        match self.input.next(self.alloc) {
+            Ok(word) => Ok(word),
+            Err(fault) => {
+                self.fault = Some(fault);
+                Err(fault)
+            }
+        }
+    }
+
+    /// The line, from 1, on which the reading stands. After `next` answered `None`, the text ends on it.
+    pub fn line(&self) -> u64
+        ensures { result ≡ line_of self.now }
+    {
+        self.input.line
+    }
+
+    /// The source as it stands. It is ready unless `next` answered that a read failed.
+    pub fn into_source(self) -> S
+        ensures source { result ≡ source_of self }
+        ensures ready { is_read_fault (fault_of self) ≡ false → IsTrue (S.ready result) }
+    {
+        let Words {
+            input,
+            alloc: _,
+            fault: _,
+        } = self;
+        let Input {
+            source,
+            window: _,
+            line: _,
+            taken: _,
+        } = input;
+        source
+    }
+}
