@@ -5,3 +5,4 @@ pub mod Telling
 pub mod Ended
 pub mod Between
 pub mod AtHand
+pub mod Decimals

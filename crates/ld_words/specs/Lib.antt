@@ -4,3 +4,4 @@ pub mod Window
 pub mod Cause
 pub mod Input
 pub mod Words
+pub mod Decimal

@@ -1,0 +1,174 @@
+ghost use Rattle.std.specs.Prelude.{◌≡◌, ◌+◌, ◌*◌, ◌^◌, ◌<◌, ◌≤◌, ◌++◌, None, Some, IfSome, if◌then◌else◌, length, nat_le, position};
+ghost use Rattle.std.specs.List.{after_first, before_first};
+ghost use Rattle.ld_words.specs.Decimal.{RoundsToNearest, has_sign, is_digit, is_negative, is_point, number_with, rounded, signed, units_of, unsigned, whole_of};
+
+use thiserror::Error;
+
+/// The greatest coordinate; its negative is the least one.
+pub const COORDINATE_LIMIT: u128 = 2_000_000_000;
+
+/// The greatest number of digits in a decimal.
+pub const DIGIT_LIMIT: usize = 30;
+
+/// Two halves of 16 bits make the units of a micron.
+const HALF: u128 = 65_536;
+
+/// Why a word has no number of units.
+#[derive(Clone, Copy, Debug, PartialEq, Eq, Error)]
+pub enum NumberFault {
+    /// The word is no decimal.
+    #[error("not a number")]
+    NotNumber,
+    /// The number of units is outside the coordinates.
+    #[error("out of range")]
+    OutOfRange,
+}
+
+/// A decimal in database units, of which `per_micron` make a micron: the whole number nearest to it, half a
+/// unit going away from zero.
+///
+/// A decimal is an optional `-` or `+` and 1 to [`DIGIT_LIMIT`] digits with at most one `.` among or around
+/// them. A word that is none is `NotNumber`; `OutOfRange` comes exactly where the whole number is beyond
+/// [`COORDINATE_LIMIT`].
+#[tactic(auto, unfolding(crate::specs::Decimal::units_of))]
+pub fn to_units(word: &[u8], per_micron: u32) -> Result<i64, NumberFault>
+    ensures { result ≡ units_of per_micron word.now }
+{
+    let text = without_sign(word);
+    let (front, back) = around_point(text);
+    let whole = whole_number(front, back).ok_or(NumberFault::NotNumber)?;
+    match nearest(whole, per_micron, back.len()) {
+        Some(magnitude) => Ok(with_sign(starts_negative(word), magnitude)),
+        None => Err(NumberFault::OutOfRange),
+    }
+}
+
+fn starts_negative(word: &[u8]) -> bool
+    ensures { result ≡ is_negative word.now }
+{
+    match word.first() {
+        Some(first) => *first == b'-',
+        None => false,
+    }
+}
+
+fn starts_with_sign(word: &[u8]) -> bool
+    ensures { result ≡ has_sign word.now }
+{
+    match word.first() {
+        Some(first) => *first == b'-' || *first == b'+',
+        None => false,
+    }
+}
+
+fn without_sign(word: &[u8]) -> &[u8]
+    ensures { result.now ≡ unsigned word.now }
+{
+    if starts_with_sign(word) {
+        &word[1..]
+    } else {
+        word
+    }
+}
+
+fn first_point(text: &[u8]) -> Option<usize>
+    ensures { result ≡ position is_point text.now }
+{
+    text.iter().position(|b| *b == b'.')
+}
+
+/// What stands before the first point and what stands after it.
+fn around_point(text: &[u8]) -> (&[u8], &[u8])
+    ensures front { result.0.now ≡ before_first is_point text.now }
+    ensures back { result.1.now ≡ after_first is_point text.now }
+{
+    match first_point(text) {
+        Some(at) => (&text[..at], &text[at + 1..]),
+        None => (text, &text[text.len()..]),
+    }
+}
+
+fn is_decimal_digit(byte: u8) -> bool
+    ensures { result ≡ is_digit byte }
+{
+    byte >= b'0' && byte <= b'9'
+}
+
+/// The digits of both parts as one number, where they are 1 to [`DIGIT_LIMIT`] digits.
+fn whole_number(front: &[u8], back: &[u8]) -> Option<u128>
+    ensures value { result ≡ whole_of (front.now ++ back.now) }
+    ensures bound { IfSome result (λ n. n < 10 ^ 30) }
+{
+    let digits = front.len().checked_add(back.len())?;
+    if digits == 0 || digits > DIGIT_LIMIT {
+        return None;
+    }
+    with_digits(with_digits(0, front)?, back)
+}
+
+/// The number with these digits behind its own, if they are digits.
+fn with_digits(mut number: u128, mut digits: &[u8]) -> Option<u128>
+    requires { (number + 1) * 10 ^ length digits.now ≤ 10 ^ 30 }
+    ensures value { result ≡ number_with number digits.now }
+    ensures bound { IfSome result (λ n. n + 1 ≤ (number + 1) * 10 ^ length digits.now) }
+{
+    'digits: while let [first, rest @ ..] = digits {
+        if !is_decimal_digit(*first) {
+            return None;
+        }
+        number = number * 10 + (*first - b'0') as u128;
+        digits = rest;
+    }
+    Some(number)
+}
+
+fn power_of_ten(exponent: usize) -> u128
+    requires { exponent ≤ 30 }
+    ensures power { result ≡ 10 ^ exponent }
+    ensures some { 0 < result }
+    ensures bound { result ≤ 10 ^ 30 }
+{
+    10u128.pow(exponent as u32)
+}
+
+/// The whole number nearest to `whole` times `per_micron` over ten to the power of `places`, if it is a
+/// coordinate.
+fn nearest(whole: u128, per_micron: u32, places: usize) -> Option<u128>
+    requires whole { whole < 10 ^ 30 }
+    requires places { places ≤ 30 }
+    ensures { result ≡ (let n = rounded (whole * per_micron) (10 ^ places) in if nat_le n COORDINATE_LIMIT then Some n else None) }
+{
+    let divisor = power_of_ten(places);
+    let per_micron = per_micron as u128;
+    // The product of all three numbers can be wider than 128 bits, and the one of a half can't.
+    let high = whole * (per_micron / HALF);
+    let quotient = high / divisor;
+    if quotient > COORDINATE_LIMIT {
+        return None;
+    }
+    let rest = high % divisor * HALF + whole * (per_micron % HALF);
+    let units = quotient * HALF + (2 * rest + divisor) / (2 * divisor);
+    if units <= COORDINATE_LIMIT {
+        Some(units)
+    } else {
+        None
+    }
+}
+
+fn with_sign(negative: bool, magnitude: u128) -> i64
+    requires { magnitude ≤ COORDINATE_LIMIT }
+    ensures { result ≡ signed negative magnitude }
+{
+    let number = magnitude as i64;
+    if negative {
+        -number
+    } else {
+        number
+    }
+}
+
+/// The rounding of [`to_units`] is to the nearest whole number, and of two that are equally near to the greater.
+pub fn rounding_is_nearest()
+    ensures { RoundsToNearest }
+{
+}
