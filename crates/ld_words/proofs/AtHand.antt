@@ -62,8 +62,8 @@ pub plain_end : {S : Type 0} (left : S → Option (List ℕ)) (now new : Input S
 plain_end left now new begins all short stays last =
     let hand = now.window in
     let word : (w : List ℕ) (line taken : ℕ) → w ≡ hand → line ≡ now.line → taken ≡ now.taken
-        → with_word (record { bytes = take (length hand) w; line = line }) (read Between (line + 0) (taken + length hand) (drop (length hand) w ++ [])) ≡ read Between now.line now.taken hand =
-        λ w line taken e f h. rw (e, f, h) (plain_last now.line now.taken hand begins all short now.within) in
+    → with_word (record { bytes = take (length hand) w; line = line }) (read Between (line + 0) (taken + length hand) (drop (length hand) w ++ [])) ≡ read Between now.line now.taken hand =
+    λ w line taken e f h. rw (e, f, h) (plain_last now.line now.taken hand begins all short now.within) in
     record {
       some = some_bytes hand begins;
       within = rw last.window (omega arith);
@@ -77,8 +77,8 @@ pub plain_over : {S : Type 0} (left : S → Option (List ℕ)) (now new : Input 
 plain_over left now new b begins all short stays past =
     rw (past.window, stays.line)
     (shows_either (reading_at left Between now) (not (is_blank b) && eqb (length now.window) WORD_LIMIT) now.line now.line
-        (read_all (read Between now.line now.taken) _ now.window (now.window ++ b ∷ []) (left now.source) (left new.source) past.bytes
-            (plain_past now.line now.taken b now.window begins all short past.full)))
+    (read_all (read Between now.line now.taken) _ now.window (now.window ++ b ∷ []) (left now.source) (left new.source) past.bytes
+    (plain_past now.line now.taken b now.window begins all short past.full)))
 
 -- the first quote and those that follow it, as places at hand
 quote_at : (hand : List ℕ) (m k : ℕ) → k ≡ suc m → IsFound is_quote (drop 1 hand) m → (k < length hand) × (is_quote (get_or hand k 0) ≡ true)
@@ -127,8 +127,8 @@ quoted_over left now new b begins all short stays past =
     let open_word = unquoted now.window begins all in
     rw (past.window, stays.line)
     (shows_either (reading_at left Between now) (eqb (length now.window) WORD_LIMIT) now.line (now.line + line_feeds now.window)
-        (read_all (read Between now.line now.taken) _ now.window (now.window ++ b ∷ []) (left now.source) (left new.source) past.bytes
-            (quoted_past now.line now.taken b open_word.0 now.window begins open_word.2 open_word.1 short past.full)))
+    (read_all (read Between now.line now.taken) _ now.window (now.window ++ b ∷ []) (left now.source) (left new.source) past.bytes
+    (quoted_past now.line now.taken b open_word.0 now.window begins open_word.2 open_word.1 short past.full)))
 
 -- more bytes behind a word change nothing of its first one
 pub plain_kept : (hand more : List ℕ) → take (length hand) more ≡ hand → BeginsPlain hand → BeginsPlain more

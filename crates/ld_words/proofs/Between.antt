@@ -54,7 +54,7 @@ pub comment_on : {S : Type 0} (left : S → Option (List ℕ)) (start old new : 
 comment_on left start old new bytes is none moved so_far =
     same_on (reading_at left Between start) (reading_at left Comment old) (reading_at left Comment new) so_far
     (same_by (reading_at left Comment old) (reading_at left Comment new)
-        (comment_read left old new (length bytes) (rw (sym is) (position_none is_line_feed bytes none)) moved))
+    (comment_read left old new (length bytes) (rw (sym is) (position_none is_line_feed bytes none)) moved))
 
 -- the line feed behind a comment stands between words
 pub comment_left : {S : Type 0} (left : S → Option (List ℕ)) (old new : Input S) (count : ℕ) → position is_line_feed old.window ≡ Some count
@@ -112,7 +112,7 @@ past_between left old new b none past =
     let full : old.taken ≡ TEXT_LIMIT = omega (arith, past.full, ap length none) in
     let word : Word = longer (word_on line) (b ∷ []) in (
       read_all (read Between line old.taken) (faulty (fault.TooLong line)) old.window (old.window ++ b ∷ []) (left old.source) (left new.source) past.bytes
-      (λ l. rw (none, full) (past_between_by (is_blank b) (opens_comment b) (is_quote b) word line (λ next. read next (line_after line b) (TEXT_LIMIT + 1) l))),
+          (λ l. rw (none, full) (past_between_by (is_blank b) (opens_comment b) (is_quote b) word line (λ next. read next (line_after line b) (TEXT_LIMIT + 1) l))),
       read_all (read Comment line old.taken) (faulty (fault.TooLong line)) old.window (old.window ++ b ∷ []) (left old.source) (left new.source) past.bytes
-      (λ l. rw (none, full) (past_comment_by (is_line_feed b) line (λ next. read next (line_after line b) (TEXT_LIMIT + 1) l))),
+          (λ l. rw (none, full) (past_comment_by (is_line_feed b) line (λ next. read next (line_after line b) (TEXT_LIMIT + 1) l))),
     )

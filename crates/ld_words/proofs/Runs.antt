@@ -80,7 +80,7 @@ read-comment line taken (b ∷ run) rest h fits =
 pub read-plain : (at : ℕ) (bytes : List ℕ) (line taken : ℕ) (run rest : List ℕ) → list_all (λ b. not (is_blank b)) run ≡ true
     → length bytes + length run ≤ WORD_LIMIT → taken + length run ≤ TEXT_LIMIT
     → read (Plain (record { bytes = bytes; line = at })) line taken (run ++ rest)
-        ≡ read (Plain (record { bytes = bytes ++ run; line = at })) line (taken + length run) rest
+    ≡ read (Plain (record { bytes = bytes ++ run; line = at })) line (taken + length run) rest
 unfolding read
 read-plain at bytes line taken [] rest h short fits =
     rw (append-nil bytes) (same_place (Plain (record { bytes = bytes; line = at })) line line taken (taken + 0) rest refl (omega arith))
@@ -97,7 +97,7 @@ read-plain at bytes line taken (b ∷ run) rest h short fits =
 pub read-quoted : (at : ℕ) (bytes : List ℕ) (line taken : ℕ) (run rest : List ℕ) → list_all (λ b. not (is_quote b)) run ≡ true
     → length bytes + length run ≤ WORD_LIMIT → taken + length run ≤ TEXT_LIMIT
     → read (Quoted (record { bytes = bytes; line = at })) line taken (run ++ rest)
-        ≡ read (Quoted (record { bytes = bytes ++ run; line = at })) (line + line_feeds run) (taken + length run) rest
+    ≡ read (Quoted (record { bytes = bytes ++ run; line = at })) (line + line_feeds run) (taken + length run) rest
 unfolding read
 read-quoted at bytes line taken [] rest h short fits =
     rw (append-nil bytes) (same_place (Quoted (record { bytes = bytes; line = at })) line (line + 0) taken (taken + 0) rest (omega arith) (omega arith))

@@ -20,7 +20,7 @@ reading_at left place input =
 abbrev pub reading_with : {S : Type 0} → (S → Option (List ℕ)) → Input S → ℕ → ℕ → Option Reading
 reading_with left input count feeds =
     option_map (λ l. with_word (record { bytes = take count input.window; line = input.line })
-        (read Between (input.line + feeds) (input.taken + count) (drop count input.window ++ l))) (left input.source)
+    (read Between (input.line + feeds) (input.taken + count) (drop count input.window ++ l))) (left input.source)
 
 -- the reading is this fault; of want of memory and of a failed read it says nothing
 abbrev pub ShowsFault : Option Reading → WordFault → Type 0

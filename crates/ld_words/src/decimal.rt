@@ -160,15 +160,10 @@ fn with_sign(negative: bool, magnitude: u128) -> i64
     ensures { result ≡ signed negative magnitude }
 {
     let number = magnitude as i64;
-    if negative {
-        -number
-    } else {
-        number
-    }
+    if negative { -number } else { number }
 }
 
 /// The rounding of [`to_units`] is to the nearest whole number, and of two that are equally near to the greater.
 pub fn rounding_is_nearest()
     ensures { RoundsToNearest }
-{
-}
+{}

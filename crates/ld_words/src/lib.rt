@@ -1,13 +1,26 @@
 //! The words of LEF and DEF texts with their lines, and decimals in database units.
+//!
+//! [`Words`] reads a text from any [`Source`](odb_outside::Source) and gives its words one after the other.
+//! Space, tab, carriage return and line feed part words. A `#` as the first byte of a word opens a comment to
+//! the end of its line, and a word that begins with `"` runs to the next `"`, over line ends too. In the model
+//! a text is a list of bytes, [the words of it](../specs/Reading.antt) with their lines follow from the bytes
+//! alone, and where the source tells its bytes, the words that are given are these, whatever the pieces.
+//! [`to_units`] is the whole number of units that is nearest to a decimal.
+//!
+//! A text is read in pieces of 16 KiB into one buffer of 80 KiB. Each byte is looked at a fixed number of
+//! times, and a word makes one allocation. Nothing here knows keywords, names or forms of statements.
 #![tactic(auto)]
 
 pub mod decimal;
-pub mod input;
-pub mod scan;
-pub mod window;
+mod input;
+mod scan;
+mod window;
 pub mod word;
 pub mod words;
 
 pub use decimal::{NumberFault, rounding_is_nearest, to_units};
 pub use word::{Word, WordFault};
 pub use words::Words;
+
+#[cfg(test)]
+mod tests;

@@ -84,7 +84,7 @@ returns-in-End-clause-word g c =
     let last = rw c.in-End.is at c.in_ok-fill.ensures.fills in
     rw (ap length bytes)
     (has_on left c.args.self.now now new (length now.window) 0 loop.reading
-        (plain_end left now new loop.begins all (omega (arith, c.if-held-gt-WORD_LIMIT.false, ap length bytes)) c.fill.ensures.stays last))
+    (plain_end left now new loop.begins all (omega (arith, c.if-held-gt-WORD_LIMIT.false, ap length bytes)) c.fill.ensures.stays last))
 
 pub returns-in-Past-clause-fault : goal.returns-in-Past-clause-fault
 returns-in-Past-clause-fault g c =
@@ -97,4 +97,4 @@ returns-in-Past-clause-fault g c =
     let past = rw c.in-Past.is at c.in_ok-fill.ensures.fills in
     rw c.past_plain.ensures
     (shows_on (reading_at left Between c.args.self.now) (reading_at left Between now) _ loop.reading
-        (plain_over left now new c.in-Past.byte loop.begins all (omega (arith, c.if-held-gt-WORD_LIMIT.false, ap length bytes)) c.fill.ensures.stays past))
+    (plain_over left now new c.in-Past.byte loop.begins all (omega (arith, c.if-held-gt-WORD_LIMIT.false, ap length bytes)) c.fill.ensures.stays past))

@@ -25,7 +25,7 @@ returns-in-Some-clause-word g c =
     let found = first_found is_quote seen c.in-Some.more (drop 1 now.window) (take (length bytes - (1 + seen)) (drop (1 + seen) bytes)) (unseen now.window bytes seen c.bytes-bytes.ensures.value) (sym c.in-Some.ensures) loop.quoted in
     fit_ok (λ n. HasWord left c.args.self.now now n (line_feeds (take n now.window))) (place + 1) now.line c.fitting.result c.fitting.ensures
     (λ short. has_on left c.args.self.now now now (place + 1) (line_feeds (take (place + 1) now.window)) loop.reading
-        (quoted_found left now (seen + c.in-Some.more) place (omega arith) loop.begins found short))
+    (quoted_found left now (seen + c.in-Some.more) place (omega arith) loop.begins found short))
 
 pub returns-in-Some-clause-fault : goal.returns-in-Some-clause-fault
 returns-in-Some-clause-fault g c =
@@ -38,7 +38,7 @@ returns-in-Some-clause-fault g c =
     let found = first_found is_quote seen c.in-Some.more (drop 1 now.window) (take (length bytes - (1 + seen)) (drop (1 + seen) bytes)) (unseen now.window bytes seen c.bytes-bytes.ensures.value) (sym c.in-Some.ensures) loop.quoted in
     fit_err (ShowsFault (reading_at left Between c.args.self.now)) (place + 1) now.line c.fitting.result c.fitting.ensures
     (λ long. same_on (reading_at left Between c.args.self.now) (reading_at left Between now) _ loop.reading
-        (quoted_long left now (seen + c.in-Some.more) loop.begins found.front (omega (arith, long)) (omega (arith, long, found.within, length-drop 1 now.window))))
+    (quoted_long left now (seen + c.in-Some.more) loop.begins found.front (omega (arith, long)) (omega (arith, long, found.within, length-drop 1 now.window))))
 
 -- no byte behind the first quote is one
 all_quoted : (hand bytes : List ℕ) (seen : ℕ) (result : Option ℕ) → bytes ≡ hand → result ≡ position is_quote (take (length bytes - (1 + seen)) (drop (1 + seen) bytes)) → result ≡ None
@@ -96,7 +96,7 @@ returns-in-End-clause-fault g c =
     let last = rw c.in-End.is at c.in_ok-fill.ensures.fills in
     rw c.fill.ensures.stays.line
     (same_on (reading_at left Between c.args.self.now) (reading_at left Between now) _ loop.reading
-        (quoted_end left now new loop.begins all (omega (arith, c.if-held-gt-WORD_LIMIT.false, ap length bytes)) last))
+    (quoted_end left now new loop.begins all (omega (arith, c.if-held-gt-WORD_LIMIT.false, ap length bytes)) last))
 
 pub returns-in-Past-clause-fault : goal.returns-in-Past-clause-fault
 returns-in-Past-clause-fault g c =
@@ -109,4 +109,4 @@ returns-in-Past-clause-fault g c =
     let past = rw c.in-Past.is at c.in_ok-fill.ensures.fills in
     rw c.past_quoted.ensures
     (shows_on (reading_at left Between c.args.self.now) (reading_at left Between now) _ loop.reading
-        (quoted_over left now new c.in-Past.field-0 loop.begins all (omega (arith, c.if-held-gt-WORD_LIMIT.false, ap length bytes)) c.fill.ensures.stays past))
+    (quoted_over left now new c.in-Past.field-0 loop.begins all (omega (arith, c.if-held-gt-WORD_LIMIT.false, ap length bytes)) c.fill.ensures.stays past))
