@@ -2,7 +2,6 @@
 use Rattle.std.proofs.Common.{◌≡◌, ℕ, ◌+◌, ◌-◌, ◌≤◌, List, [], ◌++◌, length, take, drop, slice_range, Option, Some, None, Result, Ok, refl, sym, ap, ◌∙◌, arith, append_assoc, length-append}
 use Rattle.std.proofs.lemmas.List.{take_at, drop_at, take-append-le, drop-take, drop-drop, length-take-le, length-drop}
 use Rattle.std.proofs.lemmas.Slice.{between_from_start}
-use Rattle.std.specs.List.{copy_within}
 use Rattle.odb_outside.specs.declared.fault.Failed.{Failed}
 use Rattle.odb_outside.specs.Reading.{Reads}
 use Rattle.ld_words.specs.Told.{SameIfTold, ahead}
@@ -36,15 +35,11 @@ pub length-put_mid : (xs ys : List ℕ) (held k : ℕ) → held + k ≤ length x
 length-put_mid xs ys held k fits len =
     omega (arith, length-append (take held xs) (ys ++ post_of held k xs), length-append ys (post_of held k xs), length-take-le held xs (omega arith), length-drop k (drop held xs), length-drop held xs)
 
--- the part was moved to the front of the buffer, and then bytes were written behind it
-pub filled : (xs moved ys : List ℕ) (start end k n : ℕ) → start ≤ end → end ≤ length xs → moved ≡ copy_within xs start end 0 → n ≤ length ys
-    → slice_range (put_mid (end - start) k moved ys) 0 (end - start + n) ≡ slice_range xs start end ++ take n ys
-filled xs moved ys start end k n ordered within is fits =
-    let len = length-range xs start end ordered within in
-    let parts : moved ≡ slice_range xs start end ++ drop (0 + (end - start)) xs = is in
-    let long : end - start ≤ length moved = omega (arith, ap length parts, length-append (slice_range xs start end) (drop (0 + (end - start)) xs)) in
-    behind moved ys (end - start) k n long fits
-    ∙ ap (λ l. l ++ take n ys) (ap (take (end - start)) parts ∙ take_at (slice_range xs start end) _ _ len)
+-- some bytes stand at the front of the buffer, and others were written behind them
+pub filled : (hand moved ys : List ℕ) (held k n : ℕ) → slice_range moved 0 held ≡ hand → held ≤ length moved → n ≤ length ys
+    → slice_range (put_mid held k moved ys) 0 (held + n) ≡ hand ++ take n ys
+filled hand moved ys held k n is within fits =
+    behind moved ys held k n within fits ∙ ap (λ l. l ++ take n ys) (sym (between_from_start moved held) ∙ is)
 
 -- the bytes at hand and those that are left are the same after a read
 pub same_behind : (hand piece : List ℕ) (old new : Option (List ℕ)) (n : ℕ) → Reads {E = Failed} old new (Ok n) piece

@@ -1,4 +1,4 @@
-ghost use Rattle.std.specs.Prelude.{◌≡◌, ◌+◌, ◌<◌, ◌≤◌, [], IsTrue, IfOk, IfSome, OnErr, OnOk, length, take, drop};
+ghost use Rattle.std.specs.Prelude.{◌≡◌, ◌+◌, ◌-◌, ◌<◌, ◌≤◌, [], IsTrue, IfOk, IfSome, OnErr, OnOk, length, slice_range, take, drop};
 ghost use Rattle.odb_outside.specs.Outside.{HasCause};
 ghost use Rattle.ld_words.specs.Told.{SameIfTold, ahead};
 
@@ -75,11 +75,22 @@ impl Window {
         ensures rest { S.rest source.new ≡ S.rest source.old }
     {
         let held = self.end - self.start;
-        self.bytes.copy_within(self.start..self.end, 0);
+        move_to_front(&mut self.bytes, self.start, self.end);
         self.start = 0;
         self.end = held;
         let count = source.read(&mut self.bytes[held..held + PIECE.min(most)])?;
         self.end = held + count;
         Ok(count)
+    }
+}
+
+/// Moves the bytes between two places to the front.
+fn move_to_front(bytes: &mut [u8], start: usize, end: usize)
+    requires ordered { start ≤ end }
+    requires within { end ≤ length bytes.old }
+    ensures { slice_range bytes.new 0 (end - start) ≡ slice_range bytes.old start end }
+{
+    if start > 0 {
+        bytes.copy_within(start..end, 0);
     }
 }
