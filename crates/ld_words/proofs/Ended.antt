@@ -73,7 +73,7 @@ plain_ended line taken n hand begins h within blank short fits l =
     rw (add-zero, ← plain_read line taken n hand begins h (omega arith) short fits l, drop_more hand n 0 within, blank, more) refl
 
 -- a plain word that is all that is at hand
-plain_whole : (line taken : ℕ) (hand : List ℕ) → BeginsPlain hand → list_all (λ b. not (is_blank b)) hand ≡ true → length hand ≤ WORD_LIMIT → taken + length hand ≤ TEXT_LIMIT → (l : List ℕ)
+pub plain_whole : (line taken : ℕ) (hand : List ℕ) → BeginsPlain hand → list_all (λ b. not (is_blank b)) hand ≡ true → length hand ≤ WORD_LIMIT → taken + length hand ≤ TEXT_LIMIT → (l : List ℕ)
     → read (Plain (record { bytes = hand; line = line })) line (taken + length hand) l ≡ read Between line taken (hand ++ l)
 plain_whole line taken hand begins h short fits l =
     sym (sym (plain_begun line taken hand l begins) ∙ read-plain line [] line taken hand l h (omega (arith, short)) fits)

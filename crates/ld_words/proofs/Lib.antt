@@ -6,3 +6,5 @@ pub mod Ended
 pub mod Between
 pub mod AtHand
 pub mod Decimals
+pub mod Counted
+pub mod Spaced

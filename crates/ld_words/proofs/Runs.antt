@@ -38,7 +38,7 @@ no_line_feeds (b ∷ bytes) h =
     sum_by-cons (λ x. cond (is_line_feed x) 1 0) b bytes ∙ (rw (denied _ parts.0, no_line_feeds bytes parts.1) refl)
 
 -- bytes none of which parts words
-plain_lines : (bytes : List ℕ) → list_all (λ b. not (is_blank b)) bytes ≡ true → list_all (λ b. not (is_line_feed b)) bytes ≡ true
+pub plain_lines : (bytes : List ℕ) → list_all (λ b. not (is_blank b)) bytes ≡ true → list_all (λ b. not (is_line_feed b)) bytes ≡ true
 plain_lines [] h = refl
 plain_lines (b ∷ bytes) h =
     let parts = both (not (is_blank b)) (list_all (λ x. not (is_blank x)) bytes) h in

@@ -68,10 +68,6 @@ units_of per_micron word =
     let text = unsigned word in
     if is_decimal text then coordinate (is_negative word) (magnitude_of per_micron text) else Err fault.NotNumber
 
--- no whole number is nearer to n over d than the rounded one, and of two that are equally near it is the greater
-abbrev pub RoundsToNearest : Type 0
-RoundsToNearest = (n d : ℕ) → 0 < d → (2 * d * rounded n d ≤ 2 * n + d) × (2 * n + d < 2 * d * (rounded n d + 1))
-
 -- the number with these digits behind its own, where they are digits
 abbrev pub number_with : ℕ → List ℕ → Option ℕ
 number_with number digits = if list_all is_digit digits then Some (fold with_digit number digits) else None

@@ -5,3 +5,4 @@ pub mod Cause
 pub mod Input
 pub mod Words
 pub mod Decimal
+pub mod Laws

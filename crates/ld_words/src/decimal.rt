@@ -1,6 +1,6 @@
 ghost use Rattle.std.specs.Prelude.{◌≡◌, ◌+◌, ◌*◌, ◌^◌, ◌<◌, ◌≤◌, ◌++◌, None, Some, IfSome, if◌then◌else◌, length, nat_le, position};
 ghost use Rattle.std.specs.List.{after_first, before_first};
-ghost use Rattle.ld_words.specs.Decimal.{RoundsToNearest, has_sign, is_digit, is_negative, is_point, number_with, rounded, signed, units_of, unsigned, whole_of};
+ghost use Rattle.ld_words.specs.Decimal.{has_sign, is_digit, is_negative, is_point, number_with, rounded, signed, units_of, unsigned, whole_of};
 
 use thiserror::Error;
 
@@ -162,8 +162,3 @@ fn with_sign(negative: bool, magnitude: u128) -> i64
     let number = magnitude as i64;
     if negative { -number } else { number }
 }
-
-/// The rounding of [`to_units`] is to the nearest whole number, and of two that are equally near to the greater.
-pub fn rounding_is_nearest()
-    ensures { RoundsToNearest }
-{}

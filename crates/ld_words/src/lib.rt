@@ -13,12 +13,14 @@
 
 pub mod decimal;
 mod input;
+pub mod laws;
 mod scan;
 mod window;
 pub mod word;
 pub mod words;
 
-pub use decimal::{NumberFault, rounding_is_nearest, to_units};
+pub use decimal::{NumberFault, to_units};
+pub use laws::{lines_are_counted, rounding_is_nearest, spaced_words_are_read};
 pub use word::{Word, WordFault};
 pub use words::Words;
 

@@ -196,5 +196,7 @@ fn decimals_in_units(rt: HostRuntime) {
     for (word, per_micron, units) in rows.iter() {
         assert_eq!(rt; to_units(*word, *per_micron), *units);
     }
+    lines_are_counted();
+    spaced_words_are_read();
     rounding_is_nearest();
 }
