@@ -1,5 +1,5 @@
 -- A word whose bytes are at hand, or what is wrong with it.
-use Rattle.std.proofs.Common.{◌≡◌, ℕ, suc, zero, ◌+◌, ◌-◌, ◌≤◌, ◌<◌, ◌&&◌, Bool, true, false, not, cond, List, [], ◌∷◌, ◌++◌, Option, Some, None, Result, Ok, Err, IfOk, IfErr, length, take, drop, get_or, eqb, leb, refl, sym, ap, ◌∙◌, arith, inl, inr}
+use Rattle.std.proofs.Common.{◌≡◌, ℕ, suc, zero, ◌+◌, ◌-◌, ◌≤◌, ◌<◌, ◌&&◌, true, not, cond, List, [], ◌∷◌, ◌++◌, Option, Some, Result, Ok, Err, IfOk, IfErr, length, take, drop, get_or, eqb, leb, refl, sym, ◌∙◌, arith, inl, inr}
 use Rattle.std.proofs.lemmas.Bool.{false≢true}
 use Rattle.std.proofs.lemmas.Bool.Decides.{leb_tells}
 use Rattle.std.proofs.lemmas.List.{get_or-drop, length-drop, take_all}
@@ -7,10 +7,10 @@ use Rattle.std.specs.List.{list_all}
 use Rattle.ld_words.specs.declared.input.Input.{Input}
 use Rattle.ld_words.specs.declared.word.WordFault.{WordFault}
 use Rattle.ld_words.specs.declared.word.WordFault.TheVariants as fault
-use Rattle.ld_words.specs.declared.word.TheConstants.{TEXT_LIMIT, WORD_LIMIT}
-use Rattle.ld_words.specs.Input.{BeginsPlain, BeginsQuoted, HasWord, IsLast, IsPast, ShowsFault, Stays, reading_at, reading_with}
-use Rattle.ld_words.specs.Reading.{Between, Reading, faulty, is_blank, is_quote, line_feeds, read, with_word}
-use Rattle.ld_words.specs.Told.{SameIfTold, ahead}
+use Rattle.ld_words.specs.declared.word.TheConstants.{WORD_LIMIT}
+use Rattle.ld_words.specs.Input.{BeginsPlain, BeginsQuoted, HasWord, IsLast, IsPast, Stays, reading_at, reading_with}
+use Rattle.ld_words.specs.Reading.{Between, faulty, is_blank, is_quote, line_feeds, read, with_word}
+use Rattle.ld_words.specs.Told.{SameIfTold, ShowsFault}
 use Rattle.ld_words.proofs.Ended.{plain_ended, plain_last, plain_past, plain_too_long, quoted_ended, quoted_past, quoted_too_long, quoted_unended}
 use Rattle.ld_words.proofs.Places.{IsFound}
 use Rattle.ld_words.proofs.Telling.{known_by, read_all, read_last, read_to_end, same_by, same_map, same_on, shows_either}
@@ -24,12 +24,12 @@ pub fit_err : (Q : WordFault → Type 0) (n line : ℕ) (r : Result ℕ WordFaul
 fit_err Q n line r is holds = elim (leb_tells n WORD_LIMIT) [ inl p ↦ rw (is, p.0) tt | inr p ↦ rw (is, p.0) (holds p.1) ]
 
 -- a word that was found where more bytes came to hand is a word from the start on
-pub has_on : {S : Type 0} (left : S → Option (List ℕ)) (start now new : Input S) (n feeds : ℕ) → SameIfTold (reading_at left Between start) (reading_at left Between now)
-    → HasWord left now new n feeds → HasWord left start new n feeds
-has_on left start now new n feeds so_far word = record {
+pub has_on : {S : Type 0} (left : S → Option (List ℕ)) (start now new : Input S) (n lines : ℕ) → SameIfTold (reading_at left Between start) (reading_at left Between now)
+    → HasWord left now new n lines → HasWord left start new n lines
+has_on left start now new n lines so_far word = record {
   some = word.some;
   within = word.within;
-  reading = same_on (reading_at left Between start) (reading_at left Between now) (reading_with left new n feeds) so_far word.reading;
+  reading = same_on (reading_at left Between start) (reading_at left Between now) (reading_with left new n lines) so_far word.reading;
 }
 
 -- a plain word has a byte

@@ -1,7 +1,6 @@
 -- What is read between words, as an input moves on over blanks and comments.
-use Rattle.std.proofs.Common.{◌≡◌, ℕ, ◌+◌, ◌≤◌, ◌<◌, Bool, true, false, not, cond, List, [], ◌∷◌, ◌++◌, Option, Some, None, length, take, drop, get_or, refl, sym, ap, ◌∙◌, arith, add-zero, position}
+use Rattle.std.proofs.Common.{◌≡◌, ℕ, ◌+◌, ◌≤◌, Bool, true, false, not, cond, List, [], ◌∷◌, ◌++◌, Option, Some, None, length, take, get_or, refl, sym, ap, ◌∙◌, arith, add-zero, position}
 use Rattle.std.specs.List.{list_all, position_or_len}
-use Rattle.std.specs.Option.{option_map}
 use Rattle.std.proofs.lemmas.Bool.{eqb-true}
 use Rattle.std.proofs.lemmas.List.Sums.{passes_at_first, prefix_len-le-length}
 use Rattle.ld_words.specs.declared.input.Input.{Input}
@@ -10,7 +9,7 @@ use Rattle.ld_words.specs.declared.word.WordFault.TheVariants as fault
 use Rattle.ld_words.specs.declared.word.TheConstants.{TEXT_LIMIT}
 use Rattle.ld_words.specs.Input.{BeginsComment, Continues, Finishes, Grew, IsLast, IsPast, Moved, Stays, reading_at}
 use Rattle.ld_words.specs.Reading.{Between, Comment, Goes, Place, Plain, Quoted, Reading, done, faulty, is_blank, is_line_feed, is_quote, line_after, line_feeds, longer, opens_comment, read, reading_of, word_on}
-use Rattle.ld_words.specs.Told.{SameIfTold, ahead}
+use Rattle.ld_words.specs.Told.{SameIfTold}
 use Rattle.ld_words.proofs.Ended.{blanks_passed, comment_ended, comment_opened, comment_passed}
 use Rattle.ld_words.proofs.Places.{front-passes, position_none, position_some, twice_denied}
 use Rattle.ld_words.proofs.Telling.{read_all, read_last, read_on, read_to_end, same_by, same_map, same_on}
@@ -62,8 +61,8 @@ pub comment_left : {S : Type 0} (left : S → Option (List ℕ)) (old new : Inpu
 comment_left left old new count some moved =
     let hand = old.window in
     let place = position_some is_line_feed hand count some in
-    let feed : is_line_feed (get_or hand count 0) ≡ true = rw (sym place.0) (passes_at_first is_line_feed hand 0 (rw place.0 place.1)) in
-    (rw (moved.line, moved.taken, moved.window) (same_map _ _ (left new.source) (λ l. comment_ended (old.line + 0) (old.taken + count) count hand l place.1 feed)))
+    let line_feed : is_line_feed (get_or hand count 0) ≡ true = rw (sym place.0) (passes_at_first is_line_feed hand 0 (rw place.0 place.1)) in
+    (rw (moved.line, moved.taken, moved.window) (same_map _ _ (left new.source) (λ l. comment_ended (old.line + 0) (old.taken + count) count hand l place.1 line_feed)))
     ∙ comment_read left old new count place.0 moved
 
 -- more bytes came to hand
@@ -98,8 +97,8 @@ past_between_by false false true word line next = refl
 past_between_by false false false word line next = refl
 
 -- one byte too many in a comment
-past_comment_by : (feed : Bool) (line : ℕ) (next : Place → Reading)
-    → faulty (fault.TooLong line) ≡ reading_of (cond feed (Goes Between) (Goes Comment)) line TEXT_LIMIT next
+past_comment_by : (line_feed : Bool) (line : ℕ) (next : Place → Reading)
+    → faulty (fault.TooLong line) ≡ reading_of (cond line_feed (Goes Between) (Goes Comment)) line TEXT_LIMIT next
 past_comment_by true line next = refl
 past_comment_by false line next = refl
 

@@ -1,5 +1,5 @@
 -- The line on which a text ends.
-use Rattle.std.proofs.Common.{◌≡◌, ℕ, ◌+◌, Bool, true, false, cond, List, [], ◌∷◌, eqb, refl, arith}
+use Rattle.std.proofs.Common.{ℕ, ◌+◌, true, false, cond, List, [], ◌∷◌, eqb, arith}
 use Rattle.ld_words.specs.declared.word.WordFault.TheVariants as fault
 use Rattle.ld_words.specs.declared.word.TheConstants.{TEXT_LIMIT}
 use Rattle.ld_words.specs.Laws.{EndsOn, LinesAreCounted}

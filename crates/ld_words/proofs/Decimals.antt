@@ -1,11 +1,10 @@
 -- Numbers of up to 30 digits, and their products with units in two halves.
-use Rattle.std.proofs.Common.{◌≡◌, ℕ, suc, zero, ◌+◌, ◌-◌, ◌*◌, ◌/◌, ◌%◌, ◌^◌, ◌≤◌, ◌<◌, Bool, true, false, cond, ◌&&◌, List, [], ◌∷◌, ◌++◌, Option, Some, None, IfSome, length, take, drop, get_or, fold, leb, refl, sym, ap, ◌∙◌, add-zero, arith}
+use Rattle.std.proofs.Common.{◌≡◌, ℕ, suc, ◌+◌, ◌-◌, ◌*◌, ◌/◌, ◌%◌, ◌^◌, ◌≤◌, ◌<◌, true, cond, List, [], ◌∷◌, Option, Some, None, IfSome, length, drop, get_or, leb, refl, ap, ◌∙◌, arith}
 use Rattle.std.proofs.lemmas.Bool.{lt-leb}
-use Rattle.std.proofs.lemmas.Bool.Decides.{leb_tells, nat_tests}
-use Rattle.std.proofs.lemmas.List.{take_rest}
+use Rattle.std.proofs.lemmas.Bool.Decides.{nat_tests}
 use Rattle.std.proofs.lemmas.Nat.{pow-add}
-use Rattle.std.proofs.Math.Nat.{add-mul-div_right, mul-le-mul_left, mul-le-mul_right, pow-le-pow_right, pow-suc, mul_comm}
-use Rattle.ld_words.specs.Decimal.{is_digit, number_with, rounded, with_digit}
+use Rattle.std.proofs.Math.Nat.{add-mul-div_right, mul-le-mul_left, mul-le-mul_right, pow-le-pow_right, pow-suc}
+use Rattle.ld_words.specs.Decimal.{is_digit, number_with, rounded}
 
 -- a power of ten is at least 1
 ten_some : (k : ℕ) → 1 ≤ 10 ^ k

@@ -1,5 +1,5 @@
 -- Blanks, a comment or a word whose bytes are at hand.
-use Rattle.std.proofs.Common.{◌≡◌, ℕ, suc, ◌+◌, ◌-◌, ◌≤◌, ◌<◌, Bool, true, false, not, cond, ◌&&◌, List, [], ◌∷◌, ◌++◌, length, take, drop, get_or, eqb, refl, sym, ap, subst, ◌∙◌, arith, add-zero, append_assoc, length-append, length-take, length-drop}
+use Rattle.std.proofs.Common.{◌≡◌, ℕ, suc, ◌+◌, ◌≤◌, ◌<◌, Bool, true, false, not, cond, ◌&&◌, List, [], ◌∷◌, ◌++◌, length, take, drop, get_or, eqb, refl, sym, ap, ◌∙◌, arith, add-zero, append_assoc}
 use Rattle.std.proofs.lemmas.Bool.{eq-eqb, eqb-true}
 use Rattle.std.proofs.lemmas.Bool.Decides.{nat_tests}
 use Rattle.std.proofs.lemmas.List.{append-nil, drop_more, drop_all, length-take-le, take-append-drop, take_all, take_more}
@@ -10,7 +10,7 @@ use Rattle.ld_words.specs.declared.word.Word.{Word}
 use Rattle.ld_words.specs.declared.word.WordFault.TheVariants as fault
 use Rattle.ld_words.specs.declared.word.TheConstants.{TEXT_LIMIT, WORD_LIMIT}
 use Rattle.ld_words.specs.Input.{BeginsComment, BeginsPlain, BeginsQuoted}
-use Rattle.ld_words.specs.Reading.{Between, Comment, Ends, Goes, Long, Place, Plain, Quoted, Reading, done, faulty, is_blank, is_line_feed, is_quote, line_after, line_feeds, longer, opens_comment, read, reading_of, with_word, word_on}
+use Rattle.ld_words.specs.Reading.{Between, Comment, Ends, Goes, Long, Place, Plain, Quoted, Reading, faulty, is_blank, is_line_feed, is_quote, line_after, line_feeds, longer, read, reading_of, with_word, word_on}
 use Rattle.ld_words.proofs.Places.{both, denied, front-shorter}
 use Rattle.ld_words.proofs.Runs.{line_feeds-cons, read-blanks, read-comment, read-plain, read-quoted, same_place}
 
@@ -132,11 +132,11 @@ quoted_read : (line taken m : ℕ) (hand : List ℕ) → BeginsQuoted hand → l
 quoted_read line taken m [] begins h within short fits l = absurd begins
 quoted_read line taken m (b ∷ hand) begins h within short fits l =
     let len = length-take-le m hand (omega arith) in
-    let feeds : line + line_feeds (take m hand) ≡ line + line_feeds (b ∷ take m hand) = rw (eqb-true b 34 begins) (line_feeds-cons line 34 (take m hand)) in
+    let lines : line + line_feeds (take m hand) ≡ line + line_feeds (b ∷ take m hand) = rw (eqb-true b 34 begins) (line_feeds-cons line 34 (take m hand)) in
     sym (sym (quoted_begun line taken (b ∷ hand) l begins (omega arith))
     ∙ ap (read (Quoted (record { bytes = b ∷ []; line = line })) line (taken + 1)) (split_at m hand l)
     ∙ read-quoted line (b ∷ []) line (taken + 1) (take m hand) (drop m hand ++ l) h (omega arith) (omega arith)
-    ∙ same_place (Quoted (record { bytes = b ∷ take m hand; line = line })) _ _ _ _ (drop m hand ++ l) feeds (omega (arith, len)))
+    ∙ same_place (Quoted (record { bytes = b ∷ take m hand; line = line })) _ _ _ _ (drop m hand ++ l) lines (omega (arith, len)))
 
 -- a quoted word that ends
 pub quoted_ended : (line taken m k : ℕ) (hand : List ℕ) → k ≡ suc m → BeginsQuoted hand → list_all (λ b. not (is_quote b)) (take m (drop 1 hand)) ≡ true → k < length hand → is_quote (get_or hand k 0) ≡ true → k + 1 ≤ WORD_LIMIT → taken + length hand ≤ TEXT_LIMIT → (l : List ℕ)
@@ -148,9 +148,9 @@ quoted_ended line taken m k hand is begins h within quote short fits l =
     let q = eqb-true (get_or hand k 0) 34 quote in
     let room : eqb (length front) WORD_LIMIT ≡ false = let len = length-take-le k hand (omega arith) in grind (arith, nat_tests, len) in
     let more : eqb (taken + k) TEXT_LIMIT ≡ false = grind (arith, nat_tests) in
-    let feeds : line + line_feeds (front ++ 34 ∷ []) ≡ line + line_feeds front = omega (arith, sum_by_push (λ x. cond (is_line_feed x) 1 0) front 34) in
+    let lines : line + line_feeds (front ++ 34 ∷ []) ≡ line + line_feeds front = omega (arith, sum_by_push (λ x. cond (is_line_feed x) 1 0) front 34) in
     rw (take_more hand k 0 within, q, ← word, drop_more hand k 0 within, q, room, more)
-    (ap (with_word (record { bytes = front ++ 34 ∷ []; line = line })) (same_place Between _ _ _ _ (drop (k + 1) hand ++ l) feeds (omega arith)))
+    (ap (with_word (record { bytes = front ++ 34 ∷ []; line = line })) (same_place Between _ _ _ _ (drop (k + 1) hand ++ l) lines (omega arith)))
 
 -- a quoted word that is too long
 pub quoted_too_long : (limit line taken m : ℕ) (hand : List ℕ) → suc limit ≡ WORD_LIMIT → BeginsQuoted hand → list_all (λ b. not (is_quote b)) (take m (drop 1 hand)) ≡ true → limit ≤ m → suc limit < length hand → taken + length hand ≤ TEXT_LIMIT → (l : List ℕ)

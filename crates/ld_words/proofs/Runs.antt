@@ -1,15 +1,12 @@
 -- What is read over a run of bytes that leave the reading at one sort of place.
-use Rattle.std.proofs.Common.{◌≡◌, ◌≢◌, ℕ, suc, ◌+◌, ◌≤◌, ◌<◌, Bool, true, false, not, cond, ◌&&◌, ◌||◌, List, [], ◌∷◌, ◌++◌, length, length-append, eqb, refl, sym, ap, ◌∙◌, arith, append_assoc, add_assoc, add-zero}
-use Rattle.std.proofs.lemmas.Bool.{false≢true}
+use Rattle.std.proofs.Common.{◌≡◌, ℕ, suc, ◌+◌, ◌≤◌, ◌<◌, Bool, true, false, not, cond, ◌||◌, List, [], ◌∷◌, ◌++◌, length, length-append, eqb, refl, ap, ◌∙◌, arith, append_assoc}
 use Rattle.std.proofs.lemmas.Bool.Decides.{nat_tests}
 use Rattle.std.proofs.lemmas.List.{append-nil}
 use Rattle.std.proofs.lemmas.List.Sums.{sum_by-cons}
 use Rattle.std.specs.List.{list_all}
-use Rattle.ld_words.specs.declared.word.Word.{Word}
-use Rattle.ld_words.specs.declared.word.WordFault.TheVariants as fault
 use Rattle.ld_words.specs.declared.word.TheConstants.{TEXT_LIMIT, WORD_LIMIT}
 use Rattle.ld_words.proofs.Places.{both, denied}
-use Rattle.ld_words.specs.Reading.{Between, Comment, Place, Plain, Quoted, Reading, faulty, is_blank, is_line_feed, is_quote, line_after, line_feeds, read, with_word}
+use Rattle.ld_words.specs.Reading.{Between, Comment, Place, Plain, Quoted, is_blank, is_line_feed, is_quote, line_after, line_feeds, read}
 
 -- neither test holds
 neither : (a b : Bool) → (a || b) ≡ false → (a ≡ false) × (b ≡ false)

@@ -1,25 +1,25 @@
 -- What is read of words with a blank behind each.
-use Rattle.std.proofs.Common.{◌≡◌, ℕ, suc, ◌+◌, ◌≤◌, ◌<◌, Bool, true, false, not, cond, ◌&&◌, List, [], ◌∷◌, ◌++◌, length, length-append, take, drop, get_or, eqb, refl, sym, ap, subst, ◌∙◌, arith, add-zero, append_assoc, inl, inr}
+use Rattle.std.proofs.Common.{◌≡◌, ℕ, suc, ◌+◌, ◌≤◌, ◌<◌, true, false, not, cond, ◌&&◌, List, [], ◌∷◌, ◌++◌, length, length-append, take, drop, get_or, eqb, refl, sym, ap, subst, ◌∙◌, arith, add-zero, append_assoc, inl, inr}
 use Rattle.std.proofs.lemmas.Bool.Decides.{nat_tests}
-use Rattle.std.proofs.lemmas.List.{append-nil, drop_all, get_or_at, take_all, take_at}
+use Rattle.std.proofs.lemmas.List.{drop_all, get_or_at, take_all, take_at}
 use Rattle.std.proofs.lemmas.List.Sums.{sum_by-append}
 use Rattle.std.specs.List.{AllByRecursion, list_all}
 use Rattle.ld_words.specs.declared.word.Word.{Word}
 use Rattle.ld_words.specs.declared.word.TheConstants.{TEXT_LIMIT, WORD_LIMIT}
-use Rattle.ld_words.specs.Input.{BeginsPlain, BeginsQuoted}
+use Rattle.ld_words.specs.Input.{BeginsPlain}
 use Rattle.ld_words.specs.Laws.{IsSpaced, IsWord, SpacedWordsAreRead, is_plain, lined, quoted, spaced}
-use Rattle.ld_words.specs.Reading.{Between, Done, Reading, is_blank, is_line_feed, is_quote, line_after, line_feeds, opens_comment, read, with_word}
+use Rattle.ld_words.specs.Reading.{Between, Done, is_blank, is_line_feed, is_quote, line_after, line_feeds, opens_comment, read, with_word}
 use Rattle.ld_words.proofs.Ended.{plain_whole, quoted_ended}
 use Rattle.ld_words.proofs.Places.{both, denied}
 use Rattle.ld_words.proofs.Runs.{line_feeds-cons, no_line_feeds, plain_lines, same_place}
 
 -- the line feeds of one list and then another
-feeds-append : (xs ys : List ℕ) → line_feeds (xs ++ ys) ≡ line_feeds xs + line_feeds ys
-feeds-append xs ys = sum_by-append (λ x. cond (is_line_feed x) 1 0) xs ys
+line_feeds-append : (xs ys : List ℕ) → line_feeds (xs ++ ys) ≡ line_feeds xs + line_feeds ys
+line_feeds-append xs ys = sum_by-append (λ x. cond (is_line_feed x) 1 0) xs ys
 
 -- the line behind some bytes and one more
 line_behind : (line b : ℕ) (bytes : List ℕ) → line_after (line + line_feeds bytes) b ≡ line + line_feeds (bytes ++ b ∷ [])
-line_behind line b bytes = omega (arith, feeds-append bytes (b ∷ []), line_feeds-cons (line + line_feeds bytes) b [])
+line_behind line b bytes = omega (arith, line_feeds-append bytes (b ∷ []), line_feeds-cons (line + line_feeds bytes) b [])
 
 -- a blank between words
 blank_read : (line taken b : ℕ) (rest : List ℕ) → is_blank b ≡ true → taken < TEXT_LIMIT → read Between line taken (b ∷ rest) ≡ read Between (line_after line b) (taken + 1) rest
@@ -44,7 +44,7 @@ plain_read line taken b word rest plain short blank fits =
     let whole = plain_whole line taken word parts.0 parts.1 short (omega arith) (b ∷ rest) in
     let more : eqb (taken + length word) TEXT_LIMIT ≡ false = grind (arith, nat_tests) in
     let none : line_feeds word ≡ 0 = no_line_feeds word (plain_lines word parts.1) in
-    let behind : line_after line b ≡ line + line_feeds (word ++ b ∷ []) = omega (arith, feeds-append word (b ∷ []), none, line_feeds-cons line b []) in
+    let behind : line_after line b ≡ line + line_feeds (word ++ b ∷ []) = omega (arith, line_feeds-append word (b ∷ []), none, line_feeds-cons line b []) in
     rw (← whole, blank, more) (ap (with_word (record { bytes = word; line = line })) (same_place Between _ _ _ _ rest behind refl))
 
 -- a quoted word and a blank
@@ -82,10 +82,10 @@ spaced_read line taken (p ∷ ps) h fits =
     let size = length-append p.0 (p.1 ∷ behind) in
     let next = line + line_feeds (p.0 ++ p.1 ∷ []) in
     let word : Word = record { bytes = p.0; line = line } in
-    let feeds : next + line_feeds behind ≡ line + line_feeds (p.0 ++ p.1 ∷ behind) = omega (arith, feeds-append (p.0 ++ p.1 ∷ []) behind, ap line_feeds (append_assoc p.0 (p.1 ∷ []) behind)) in
+    let lines : next + line_feeds behind ≡ line + line_feeds (p.0 ++ p.1 ∷ behind) = omega (arith, line_feeds-append (p.0 ++ p.1 ∷ []) behind, ap line_feeds (append_assoc p.0 (p.1 ∷ []) behind)) in
     word_read line taken p.1 p.0 behind h.0.0 h.0.1 h.0.2 (omega (arith, size))
     ∙ ap (with_word word) (spaced_read next (taken + length p.0 + 1) ps h.1 (omega (arith, size)))
-    ∙ ap (λ (n : ℕ). record { words = word ∷ lined next ps; ending = Done n }) feeds
+    ∙ ap (λ (n : ℕ). record { words = word ∷ lined next ps; ending = Done n }) lines
 
 pub spaced_words_read : SpacedWordsAreRead
 spaced_words_read ps h fits = spaced_read 1 0 ps h (omega arith)

@@ -4,9 +4,8 @@ use Rattle.std.proofs.lemmas.List.{append-nil, append_cancel_left}
 use Rattle.std.specs.Option.{option_map}
 use Rattle.ld_words.specs.declared.word.WordFault.{WordFault}
 use Rattle.ld_words.specs.declared.word.WordFault.TheVariants as fault
-use Rattle.ld_words.specs.Input.{ShowsFault}
 use Rattle.ld_words.specs.Reading.{Reading, faulty}
-use Rattle.ld_words.specs.Told.{SameIfTold, ahead}
+use Rattle.ld_words.specs.Told.{SameIfTold, ShowsFault, ahead}
 
 -- told before a step and after it
 pub same_on : {A : Type 0} (a b c : Option A) → SameIfTold a b → SameIfTold b c → SameIfTold a c

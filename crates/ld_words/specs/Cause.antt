@@ -1,5 +1,5 @@
 -- What a source has to do with an answer.
-use Rattle.std.specs.Prelude.{◌≡◌, ◌≤◌, Bool, true, false, ℕ, Option, Some, None, Result, Ok, Err, IsErrOf, ⊤}
+use Rattle.std.specs.Prelude.{◌≤◌, Bool, true, false, ℕ, Option, Some, None, Result, Ok, Err, IsErrOf, ⊤}
 use Rattle.odb_outside.specs.Outside.{Rose}
 use Rattle.ld_words.specs.declared.word.WordFault.{WordFault}
 use Rattle.ld_words.specs.declared.word.WordFault.TheVariants as fault

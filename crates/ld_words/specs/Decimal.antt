@@ -1,5 +1,5 @@
 -- Which words are decimals, and what they are in database units.
-use Rattle.std.specs.Prelude.{◌≡◌, ◌+◌, ◌-◌, ◌*◌, ◌/◌, ◌^◌, ◌<◌, ◌≤◌, ◌==◌, ◌&&◌, ◌||◌, ◌++◌, ℤ, pos, neg_ℤ, Bool, true, false, List, ℕ, Option, Some, None, Result, Ok, Err, if◌then◌else◌, drop, fold, length, nat_le, slice_index}
+use Rattle.std.specs.Prelude.{◌+◌, ◌-◌, ◌*◌, ◌/◌, ◌^◌, ◌==◌, ◌&&◌, ◌||◌, ◌++◌, ℤ, pos, neg_ℤ, Bool, List, ℕ, Option, Some, None, Result, Ok, Err, if◌then◌else◌, drop, fold, length, nat_le, slice_index}
 use Rattle.std.specs.List.{after_first, before_first, list_all}
 use Rattle.ld_words.specs.declared.decimal.NumberFault.{NumberFault}
 use Rattle.ld_words.specs.declared.decimal.NumberFault.TheVariants as fault
@@ -66,7 +66,8 @@ magnitude_of per_micron text = rounded (number_of (digits_of text) * per_micron)
 unfoldable pub units_of : ℕ → List ℕ → Result ℤ NumberFault
 units_of per_micron word =
     let text = unsigned word in
-    if is_decimal text then coordinate (is_negative word) (magnitude_of per_micron text) else Err fault.NotNumber
+    if is_decimal text then coordinate (is_negative word) (magnitude_of per_micron text)
+    else Err fault.NotNumber
 
 -- the number with these digits behind its own, where they are digits
 abbrev pub number_with : ℕ → List ℕ → Option ℕ

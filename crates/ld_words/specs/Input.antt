@@ -1,14 +1,12 @@
 -- What is read of an input from the place on at which it stands.
-use Rattle.std.specs.Prelude.{◌≡◌, ◌+◌, ◌<◌, ◌≤◌, ◌++◌, Bool, false, true, List, [], ◌∷◌, ℕ, Option, Some, None, ⊤, length, take, drop, slice_get}
+use Rattle.std.specs.Prelude.{◌≡◌, ◌+◌, ◌<◌, ◌≤◌, ◌++◌, Bool, false, true, List, [], ◌∷◌, ℕ, Option, Some, None, length, take, drop, slice_get}
 use Rattle.std.specs.Option.{option_map}
 use Rattle.ld_words.specs.declared.input.Fill.{Fill}
 use Rattle.ld_words.specs.declared.input.Fill.TheVariants.{More, End, Past}
 use Rattle.ld_words.specs.declared.input.Input.{Input}
 use Rattle.ld_words.specs.declared.word.Word.{Word}
-use Rattle.ld_words.specs.declared.word.WordFault.{WordFault}
-use Rattle.ld_words.specs.declared.word.WordFault.TheVariants as fault
 use Rattle.ld_words.specs.declared.word.TheConstants.{TEXT_LIMIT}
-use Rattle.ld_words.specs.Reading.{Between, Comment, Place, Reading, done, faulty, is_blank, is_quote, opens_comment, read, with_word}
+use Rattle.ld_words.specs.Reading.{Between, Comment, Place, Reading, done, is_blank, is_quote, opens_comment, read, with_word}
 use Rattle.ld_words.specs.Told.{SameIfTold, ahead}
 
 -- what is read from the input's place on, where the source tells its bytes
@@ -18,24 +16,16 @@ reading_at left place input =
 
 -- what is read where the first bytes at hand are a word with so many line feeds
 abbrev pub reading_with : {S : Type 0} → (S → Option (List ℕ)) → Input S → ℕ → ℕ → Option Reading
-reading_with left input count feeds =
+reading_with left input count lines =
     option_map (λ l. with_word (record { bytes = take count input.window; line = input.line })
-    (read Between (input.line + feeds) (input.taken + count) (drop count input.window ++ l))) (left input.source)
-
--- the reading is this fault; of want of memory and of a failed read it says nothing
-abbrev pub ShowsFault : Option Reading → WordFault → Type 0
-ShowsFault before (fault.OpenQuote line) = SameIfTold before (Some (faulty (fault.OpenQuote line)))
-ShowsFault before (fault.LongWord line) = SameIfTold before (Some (faulty (fault.LongWord line)))
-ShowsFault before (fault.TooLong line) = SameIfTold before (Some (faulty (fault.TooLong line)))
-ShowsFault before fault.ReadFault = ⊤
-ShowsFault before fault.Memory = ⊤
+    (read Between (input.line + lines) (input.taken + count) (drop count input.window ++ l))) (left input.source)
 
 -- the first bytes at hand were used up, and the line is later by so many
-pub record Moved {S : Type 0} (old new : Input S) (count feeds : ℕ) : Type 0 where
+pub record Moved {S : Type 0} (old new : Input S) (count lines : ℕ) : Type 0 where
   pub source : new.source ≡ old.source
   pub window : new.window ≡ drop count old.window
   pub taken : new.taken ≡ old.taken + count
-  pub line : new.line ≡ old.line + feeds
+  pub line : new.line ≡ old.line + lines
 
 -- the input stands where it stood
 pub record Stays {S : Type 0} (old new : Input S) : Type 0 where
@@ -100,10 +90,10 @@ ComesTo left old new None = IsAtEnd left old new
 ComesTo left old new (Some first) = IsAtWord left old new first
 
 -- the first bytes at hand are a word with so many line feeds
-pub record HasWord {S : Type 0} (left : S → Option (List ℕ)) (old new : Input S) (count feeds : ℕ) : Type 0 where
+pub record HasWord {S : Type 0} (left : S → Option (List ℕ)) (old new : Input S) (count lines : ℕ) : Type 0 where
   pub some : 0 < count
   pub within : count ≤ length new.window
-  pub reading : SameIfTold (reading_at left Between old) (reading_with left new count feeds)
+  pub reading : SameIfTold (reading_at left Between old) (reading_with left new count lines)
 
 -- the first byte opens a comment
 abbrev pub BeginsComment : List ℕ → Type 0
@@ -123,4 +113,5 @@ BeginsQuoted (b ∷ bytes) = is_quote b ≡ true
 -- the next word is this one, or there is none
 abbrev pub NextIs : {S : Type 0} → (S → Option (List ℕ)) → Input S → Input S → Option Word → Type 0
 NextIs left old new None = IsAtEnd left old new
-NextIs left old new (Some word) = SameIfTold (reading_at left Between old) (option_map (with_word word) (reading_at left Between new))
+NextIs left old new (Some word) =
+    SameIfTold (reading_at left Between old) (option_map (with_word word) (reading_at left Between new))

@@ -17,12 +17,14 @@ LinesAreCounted = (text : List ℕ) → EndsOn (words_of text).ending (1 + line_
 
 -- no whole number is nearer to n over d than the rounded one, and of two that are equally near it is the greater
 abbrev pub RoundsToNearest : Type 0
-RoundsToNearest = (n d : ℕ) → 0 < d → (2 * d * rounded n d ≤ 2 * n + d) × (2 * n + d < 2 * d * (rounded n d + 1))
+RoundsToNearest = (n d : ℕ) → 0 < d
+    → (2 * d * rounded n d ≤ 2 * n + d) × (2 * n + d < 2 * d * (rounded n d + 1))
 
 -- the bytes of a plain word: none parts words, and the first opens neither a comment nor a quoted word
 abbrev pub is_plain : List ℕ → Bool
 is_plain [] = false
-is_plain (b ∷ bytes) = not (opens_comment b) && not (is_quote b) && list_all (λ c. not (is_blank c)) (b ∷ bytes)
+is_plain (b ∷ bytes) =
+    not (opens_comment b) && not (is_quote b) && list_all (λ c. not (is_blank c)) (b ∷ bytes)
 
 -- these bytes between quotes
 abbrev pub quoted : List ℕ → List ℕ
@@ -30,7 +32,9 @@ quoted inside = 34 ∷ inside ++ 34 ∷ []
 
 -- bytes that are a word: a plain one, or one between quotes that has no other quote
 abbrev pub IsWord : List ℕ → Type 0
-IsWord bytes = (is_plain bytes ≡ true) ⊎ ((inside : List ℕ) × (bytes ≡ quoted inside) × (list_all (λ b. not (is_quote b)) inside ≡ true))
+IsWord bytes =
+    (is_plain bytes ≡ true)
+    ⊎ ((inside : List ℕ) × (bytes ≡ quoted inside) × (list_all (λ b. not (is_quote b)) inside ≡ true))
 
 -- a word that isn't too long, and the blank behind it
 abbrev pub IsSpaced : List ℕ × ℕ → Type 0
@@ -48,5 +52,6 @@ lined line (p ∷ ps) = record { bytes = p.0; line = line } ∷ lined (line + li
 
 -- a text of words with a blank behind each has just these words, each with its line
 abbrev pub SpacedWordsAreRead : Type 0
-SpacedWordsAreRead = (ps : List (List ℕ × ℕ)) → AllByRecursion IsSpaced ps → length (spaced ps) ≤ TEXT_LIMIT
+SpacedWordsAreRead = (ps : List (List ℕ × ℕ)) → AllByRecursion IsSpaced ps
+    → length (spaced ps) ≤ TEXT_LIMIT
     → words_of (spaced ps) ≡ record { words = lined 1 ps; ending = Done (1 + line_feeds (spaced ps)) }

@@ -1,5 +1,5 @@
 -- The words of a text with their lines, and how the text ends.
-use Rattle.std.specs.Prelude.{◌≡◌, ◌+◌, ◌==◌, ◌||◌, ◌++◌, Bool, List, [], ◌∷◌, ℕ, if◌then◌else◌, length, count_by}
+use Rattle.std.specs.Prelude.{◌+◌, ◌==◌, ◌||◌, ◌++◌, Bool, List, [], ◌∷◌, ℕ, if◌then◌else◌, length, count_by}
 use Rattle.ld_words.specs.declared.word.Word.{Word}
 use Rattle.ld_words.specs.declared.word.WordFault.{WordFault}
 use Rattle.ld_words.specs.declared.word.WordFault.TheVariants as fault

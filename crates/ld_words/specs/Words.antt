@@ -1,14 +1,14 @@
 -- What the words of a text mean that a source gives.
-use Rattle.std.specs.Prelude.{◌≡◌, ◌-◌, List, ℕ, Option, Some, None, Result, Ok, Err}
+use Rattle.std.specs.Prelude.{◌≡◌, ◌-◌, ℕ, Option, Some, None, Result, Ok, Err}
 use Rattle.std.specs.Option.{option_map}
 use Rattle.odb_outside.specs.declared.source.Source.{Ghosts}
 use Rattle.ld_words.specs.declared.word.Word.{Word}
 use Rattle.ld_words.specs.declared.word.WordFault.{WordFault}
 use Rattle.ld_words.specs.declared.word.TheConstants.{TEXT_LIMIT}
 use Rattle.ld_words.specs.declared.words.Words.{Words}
-use Rattle.ld_words.specs.Input.{ShowsFault, reading_at}
+use Rattle.ld_words.specs.Input.{reading_at}
 use Rattle.ld_words.specs.Reading.{Between, Reading, done, faulty, with_word}
-use Rattle.ld_words.specs.Told.{SameIfTold}
+use Rattle.ld_words.specs.Told.{SameIfTold, ShowsFault}
 
 -- the source as it stands
 abbrev pub source_of : {S : Type 0} {g : Ghosts S} → Words S g → S

@@ -136,7 +136,8 @@ fn power_of_ten(exponent: usize) -> u128
 fn nearest(whole: u128, per_micron: u32, places: usize) -> Option<u128>
     requires whole { whole < 10 ^ 30 }
     requires places { places ≤ 30 }
-    ensures { result ≡ (let n = rounded (whole * per_micron) (10 ^ places) in if nat_le n COORDINATE_LIMIT then Some n else None) }
+    ensures { let n = rounded (whole * per_micron) (10 ^ places) in
+        result ≡ (if nat_le n COORDINATE_LIMIT then Some n else None) }
 {
     let divisor = power_of_ten(places);
     let per_micron = per_micron as u128;

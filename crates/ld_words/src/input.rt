@@ -1,7 +1,9 @@
 ghost use Rattle.std.specs.Prelude.{◌≡◌, ◌+◌, ◌<◌, ◌≤◌, ◌↔◌, ◌==◌, ◌&&◌, [], false, true, if◌then◌else◌, IsTrue, IfErr, IfOk, IfSome, OnOk, OnSome, Some, length, nat_le, not, slice_get, take};
 ghost use Rattle.ld_words.specs.declared.word.TheConstants.{TEXT_LIMIT};
 
-use crate::scan::{blanks_in, feeds_in, first_blank, first_feed, first_quote, is_blank_byte};
+use crate::scan::{
+    blanks_in, first_blank, first_line_feed, first_quote, is_blank_byte, line_feeds_in,
+};
 use crate::window::Window;
 use crate::word::{TEXT_LIMIT, WORD_LIMIT, Word, WordFault};
 use odb_base::Text;
@@ -35,18 +37,18 @@ pub struct Input<S> {
 impl<S: Source> Input<S> {
     ghost use Rattle.odb_outside.specs.Outside.{HasCause};
     ghost use Rattle.ld_words.specs.Cause.{HasReadCause, UnlessReadFault};
-    ghost use Rattle.ld_words.specs.Input.{BeginsComment, BeginsPlain, BeginsQuoted, ComesTo, Fills, GoesOn, HasWord, Moved, NextIs, ShowsFault, Stays, reading_at};
+    ghost use Rattle.ld_words.specs.Input.{BeginsComment, BeginsPlain, BeginsQuoted, ComesTo, Fills, GoesOn, HasWord, Moved, NextIs, Stays, reading_at};
     ghost use Rattle.ld_words.specs.Reading.{Between, Comment, is_blank, line_feeds};
-    ghost use Rattle.ld_words.specs.Told.{SameIfTold};
+    ghost use Rattle.ld_words.specs.Told.{SameIfTold, ShowsFault};
 
     /// Uses up the first bytes at hand, which have so many line feeds.
-    fn advance(&mut self, count: usize, feeds: usize)
+    fn advance(&mut self, count: usize, lines: usize)
         requires count { count ≤ length self.old.window }
-        requires feeds { feeds ≤ count }
-        ensures { Moved self.old self.new count feeds }
+        requires lines { lines ≤ count }
+        ensures { Moved self.old self.new count lines }
     {
         self.window.skip(count);
-        self.line += feeds as u64;
+        self.line += lines as u64;
         self.taken += count as u64;
     }
 
@@ -72,6 +74,7 @@ impl<S: Source> Input<S> {
         }
     }
 
+    /// Looks for one byte more than a text may have.
     fn look_past(&mut self) -> Result<Fill, WordFault>
         requires ready { IsTrue (S.ready self.old.source) }
         requires full { self.old.taken + length self.old.window ≡ TEXT_LIMIT }
@@ -109,15 +112,17 @@ impl<S: Source> Input<S> {
         requires { count ≤ length self.old.window }
         ensures { Moved self.old self.new count (line_feeds (take count self.old.window)) }
     {
-        let feeds = feeds_in(&self.window.bytes()[..count]);
-        self.advance(count, feeds);
+        let lines = line_feeds_in(&self.window.bytes()[..count]);
+        self.advance(count, lines);
     }
 
+    /// Uses up the blanks at the front of the bytes at hand.
     fn pass_blanks(&mut self)
         ensures reading { reading_at S.left Between self.new ≡ reading_at S.left Between self.old }
         ensures stops { IfSome (slice_get self.new.window 0) (λ b. is_blank b ≡ false) }
         ensures taken { self.old.taken ≤ self.new.taken }
-        ensures at_hand { self.old.taken + length self.old.window ≤ self.new.taken + length self.new.window }
+        ensures at_hand { self.old.taken + length self.old.window
+            ≤ self.new.taken + length self.new.window }
         ensures source { self.new.source ≡ self.old.source }
     {
         let count = blanks_in(self.window.bytes());
@@ -129,7 +134,8 @@ impl<S: Source> Input<S> {
         requires ready { IsTrue (S.ready self.old.source) }
         requires empty { self.old.window ≡ [] }
         ensures goes { IfOk result (GoesOn S.left self.old self.new) }
-        ensures fault { IfErr result (λ f. ShowsFault (reading_at S.left Between self.old) f × ShowsFault (reading_at S.left Comment self.old) f) }
+        ensures fault { IfErr result (ShowsFault (reading_at S.left Between self.old)) }
+        ensures comment { IfErr result (ShowsFault (reading_at S.left Comment self.old)) }
         ensures stays { Stays self.old self.new }
         ensures ready { UnlessReadFault result (IsTrue (S.ready self.new.source)) }
         ensures cause { HasReadCause (S.faults self.old.source) (S.faults self.new.source) result }
@@ -146,10 +152,12 @@ impl<S: Source> Input<S> {
     fn pass_comment(&mut self) -> Result<(), WordFault>
         requires ready { IsTrue (S.ready self.old.source) }
         requires begins { BeginsComment self.old.window }
-        ensures reading { OnOk result (SameIfTold (reading_at S.left Between self.old) (reading_at S.left Between self.new)) }
+        ensures reading { OnOk result
+            (SameIfTold (reading_at S.left Between self.old) (reading_at S.left Between self.new)) }
         ensures fault { IfErr result (ShowsFault (reading_at S.left Between self.old)) }
         ensures taken { self.old.taken < self.new.taken }
-        ensures at_hand { self.old.taken + length self.old.window ≤ self.new.taken + length self.new.window }
+        ensures at_hand { self.old.taken + length self.old.window
+            ≤ self.new.taken + length self.new.window }
         ensures ready { UnlessReadFault result (IsTrue (S.ready self.new.source)) }
         ensures cause { HasReadCause (S.faults self.old.source) (S.faults self.new.source) result }
         ensures rest { S.rest self.new.source ≡ S.rest self.old.source }
@@ -158,7 +166,7 @@ impl<S: Source> Input<S> {
         'comment: loop {
             let bytes = self.window.bytes();
             let held = bytes.len();
-            if let Some(count) = first_feed(bytes) {
+            if let Some(count) = first_line_feed(bytes) {
                 self.pass(count);
                 return Ok(());
             }
@@ -225,7 +233,8 @@ impl<S: Source> Input<S> {
 
     /// The length of a word, unless it is too long.
     fn fitting(&self, length: usize) -> Result<usize, WordFault>
-        ensures { result ≡ (if nat_le length WORD_LIMIT then Ok length else Err (WordFault.LongWord self.now.line)) }
+        ensures { result ≡ (if nat_le length WORD_LIMIT then Ok length
+            else Err (WordFault.LongWord self.now.line)) }
     {
         if length <= WORD_LIMIT {
             Ok(length)
@@ -250,7 +259,8 @@ impl<S: Source> Input<S> {
     fn quoted_length(&mut self) -> Result<usize, WordFault>
         requires ready { IsTrue (S.ready self.old.source) }
         requires begins { BeginsQuoted self.old.window }
-        ensures word { IfOk result (λ n. HasWord S.left self.old self.new n (line_feeds (take n self.new.window))) }
+        ensures word { IfOk result
+            (λ n. HasWord S.left self.old self.new n (line_feeds (take n self.new.window))) }
         ensures fault { IfErr result (ShowsFault (reading_at S.left Between self.old)) }
         ensures stays { Stays self.old self.new }
         ensures ready { UnlessReadFault result (IsTrue (S.ready self.new.source)) }
@@ -278,15 +288,15 @@ impl<S: Source> Input<S> {
 
     /// What is wrong where one byte too many for a text comes after the quoted bytes at hand.
     fn past_quoted(&self) -> WordFault
-        ensures { result ≡ (if length self.now.window == WORD_LIMIT
-            then WordFault.LongWord self.now.line else WordFault.TooLong (self.now.line + line_feeds self.now.window)) }
+        ensures { result ≡ (if length self.now.window == WORD_LIMIT then WordFault.LongWord self.now.line
+            else WordFault.TooLong (self.now.line + line_feeds self.now.window)) }
     {
         let bytes = self.window.bytes();
         if bytes.len() == WORD_LIMIT {
             WordFault::LongWord { line: self.line }
         } else {
             WordFault::TooLong {
-                line: self.line + feeds_in(bytes) as u64,
+                line: self.line + line_feeds_in(bytes) as u64,
             }
         }
     }
@@ -294,7 +304,8 @@ impl<S: Source> Input<S> {
     /// The first bytes at hand as a word, in its own memory.
     fn word(&self, alloc: Global, count: usize) -> Result<Word, WordFault>
         requires { count ≤ length self.now.window }
-        ensures word { IfOk result (λ word. word ≡ record { bytes = take count self.now.window; line = self.now.line }) }
+        ensures word { IfOk result
+            (λ word. word ≡ record { bytes = take count self.now.window; line = self.now.line }) }
         ensures memory { IfErr result (λ f. f ≡ WordFault.Memory) }
     {
         match Text::new(alloc, &self.window.bytes()[..count]) {

@@ -35,7 +35,7 @@ pub fn first_blank(bytes: &[u8]) -> Option<usize>
 }
 
 /// Where the first line feed stands.
-pub fn first_feed(bytes: &[u8]) -> Option<usize>
+pub fn first_line_feed(bytes: &[u8]) -> Option<usize>
     ensures { result ≡ position is_line_feed bytes.now }
 {
     bytes.iter().position(|b| *b == b'\n')
@@ -49,8 +49,8 @@ pub fn first_quote(bytes: &[u8]) -> Option<usize>
 }
 
 /// How many line feeds there are.
-pub fn feeds_in(bytes: &[u8]) -> usize
-    ensures feeds { result ≡ line_feeds bytes.now }
+pub fn line_feeds_in(bytes: &[u8]) -> usize
+    ensures count { result ≡ line_feeds bytes.now }
     ensures bound { result ≤ length bytes.now }
 {
     bytes.iter().filter(|b| **b == b'\n').count()

@@ -68,7 +68,8 @@ impl Window {
         ensures kept { OnOk result (take (length self.old) self.new ≡ self.old) }
         ensures grown { IfOk result (λ n. length self.new ≡ length self.old + n) }
         ensures most { IfOk result (λ n. n ≤ most) }
-        ensures bytes { OnOk result (SameIfTold (ahead self.old (S.left source.old)) (ahead self.new (S.left source.new))) }
+        ensures bytes { OnOk result
+            (SameIfTold (ahead self.old (S.left source.old)) (ahead self.new (S.left source.new))) }
         ensures end { IfOk result (λ n. n ≡ 0 → IfSome (S.left source.old) (λ left. left ≡ [])) }
         ensures ready { OnOk result (IsTrue (S.ready source.new)) }
         ensures cause { HasCause (S.faults source.old) (S.faults source.new) result }

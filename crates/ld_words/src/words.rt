@@ -26,7 +26,8 @@ impl<S: Source + Drop> Words<S> {
     /// Stands before the first word of the bytes that the source has left, on line 1.
     pub fn new(alloc: Global, source: S) -> Result<Words<S>, AllocError>
         requires { IsTrue (S.ready source) }
-        ensures words { IfOk result (λ words. reading_left words ≡ option_map words_of (S.left source)) }
+        ensures words { IfOk result
+            (λ words. reading_left words ≡ option_map words_of (S.left source)) }
         ensures line { IfOk result (λ words. line_of words ≡ 1) }
         ensures fault { IfOk result (λ words. fault_of words ≡ None) }
         ensures source { IfOk result (λ words. source_of words ≡ source) }
@@ -50,10 +51,12 @@ impl<S: Source + Drop> Words<S> {
 
         // The fault that was answered is kept, and nothing changes after it.
         ensures fault { fault_of self.new ≡ result_err result }
-        ensures kept { (f : WordFault) → fault_of self.old ≡ Some f → (result ≡ Err f) × (self.new ≡ self.old) }
+        ensures kept { (f : WordFault) → fault_of self.old ≡ Some f
+            → (result ≡ Err f) × (self.new ≡ self.old) }
 
         // A read fails only where the source counted a fault.
-        ensures failed { IsErrOf result WordFault.ReadFault → fault_of self.old ≡ None → Rose (S.faults (source_of self.old)) (S.faults (source_of self.new)) }
+        ensures failed { IsErrOf result WordFault.ReadFault → fault_of self.old ≡ None
+            → Rose (S.faults (source_of self.old)) (S.faults (source_of self.new)) }
         ensures later { S.faults (source_of self.old) ≤ S.faults (source_of self.new) }
         ensures ready { UnlessReadFault result (IsTrue (S.ready (source_of self.new))) }
         ensures rest { S.rest (source_of self.new) ≡ S.rest (source_of self.old) }

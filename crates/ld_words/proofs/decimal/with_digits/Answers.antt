@@ -1,4 +1,4 @@
-use Rattle.std.proofs.Common.{arith, sym, ◌∙◌, drop, take, length, ◌-◌, ◌≡◌, List, ℕ, get_or}
+use Rattle.std.proofs.Common.{arith, sym, ◌∙◌, get_or}
 use Rattle.std.proofs.lemmas.List.{take_rest}
 use Rattle.ld_words.proofs.Decimals.{digit_on, digit_value, room_on, room_one}
 use Rattle.ld_words.proofs.decimal.with_digits.Goals as goal

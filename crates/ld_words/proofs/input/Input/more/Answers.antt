@@ -8,4 +8,9 @@ returns-in-End-clause-goes g c =
 pub returns-in-Past-clause-fault : goal.returns-in-Past-clause-fault
 returns-in-Past-clause-fault g c =
     rw c.fill.ensures.stays.line
-    (past_between g.S.Source.left c.args.self.now c.fill.new.self c.in-Past.field-0 c.requires.empty (rw c.in-Past.is at c.in_ok-fill.ensures.fills))
+    (past_between g.S.Source.left c.args.self.now c.fill.new.self c.in-Past.field-0 c.requires.empty (rw c.in-Past.is at c.in_ok-fill.ensures.fills)).0
+
+pub returns-in-Past-clause-comment : goal.returns-in-Past-clause-comment
+returns-in-Past-clause-comment g c =
+    rw c.fill.ensures.stays.line
+    (past_between g.S.Source.left c.args.self.now c.fill.new.self c.in-Past.field-0 c.requires.empty (rw c.in-Past.is at c.in_ok-fill.ensures.fills)).1

@@ -1,4 +1,4 @@
-use Rattle.std.proofs.Common.{not, ap, ◌∙◌, IfSome, drop, slice_get, ◌≡◌, true}
+use Rattle.std.proofs.Common.{not, ap, ◌∙◌, drop, slice_get}
 use Rattle.std.specs.List.{position_or_len}
 use Rattle.ld_words.specs.Reading.{is_blank}
 use Rattle.ld_words.proofs.Between.{blanks_read}

@@ -1,4 +1,4 @@
-use Rattle.std.proofs.Common.{◌≡◌, ◌+◌, Some, None, ap, ◌∙◌, sym, rules, arith, position, length, length-drop}
+use Rattle.std.proofs.Common.{◌≡◌, Some, ap, ◌∙◌, sym, rules, arith, position, length, length-drop}
 use Rattle.std.proofs.lemmas.Result.{err_from_is_err_and}
 use Rattle.ld_words.specs.Input.{reading_at}
 use Rattle.ld_words.specs.Reading.{Between, Comment, is_line_feed}
@@ -28,20 +28,20 @@ pub returns-in_err-more-clause-fault : goal.returns-in_err-more-clause-fault
 returns-in_err-more-clause-fault g c =
     let left = g.S.Source.left in
     let p = err_from_is_err_and c.from_residual.result c.from_residual.ensures.1 in
-    let passed = comment_on left c.args.self.now c.comment.self c.pass-in-comment.new.self c.bytes-bytes.result.now c.bytes-bytes.ensures.value (sym c.first_feed.ensures ∙ c.in_default.is) c.pass-in-comment.ensures c.comment.invariant.reading in
-    rw (p.1, p.2) (shows_on (reading_at left Between c.args.self.now) (reading_at left Comment c.pass-in-comment.new.self) c.in_err-more.field-0.0 passed c.in_err-more.ensures.fault.1)
+    let passed = comment_on left c.args.self.now c.comment.self c.pass-in-comment.new.self c.bytes-bytes.result.now c.bytes-bytes.ensures.value (sym c.first_line_feed.ensures ∙ c.in_default.is) c.pass-in-comment.ensures c.comment.invariant.reading in
+    rw (p.1, p.2) (shows_on (reading_at left Between c.args.self.now) (reading_at left Comment c.pass-in-comment.new.self) c.in_err-more.field-0.0 passed c.in_err-more.ensures.comment)
 
 pub returns-then-not-branch-clause-reading : goal.returns-then-not-branch-clause-reading
 returns-then-not-branch-clause-reading g c =
     let left = g.S.Source.left in
-    let passed = comment_on left c.args.self.now c.comment.self c.pass-in-comment.new.self c.bytes-bytes.result.now c.bytes-bytes.ensures.value (sym c.first_feed.ensures ∙ c.in_default.is) c.pass-in-comment.ensures c.comment.invariant.reading in
+    let passed = comment_on left c.args.self.now c.comment.self c.pass-in-comment.new.self c.bytes-bytes.result.now c.bytes-bytes.ensures.value (sym c.first_line_feed.ensures ∙ c.in_default.is) c.pass-in-comment.ensures c.comment.invariant.reading in
     let ends = rw c.if-not-branch.true at c.in_ok-more.ensures.goes in
     same_on (reading_at left Between c.args.self.now) (reading_at left Comment c.pass-in-comment.new.self) (reading_at left Between c.more.new.self) passed ends.comment
 
 pub comment-preserved : goal.comment-preserved
 comment-preserved g c =
     let left = g.S.Source.left in
-    let passed = comment_on left c.args.self.now c.comment.self c.pass-in-comment.new.self c.bytes-bytes.result.now c.bytes-bytes.ensures.value (sym c.first_feed.ensures ∙ c.in_default.is) c.pass-in-comment.ensures c.comment.invariant.reading in
+    let passed = comment_on left c.args.self.now c.comment.self c.pass-in-comment.new.self c.bytes-bytes.result.now c.bytes-bytes.ensures.value (sym c.first_line_feed.ensures ∙ c.in_default.is) c.pass-in-comment.ensures c.comment.invariant.reading in
     let goes = rw c.if-not-branch.false at c.in_ok-more.ensures.goes in
     record {
       reading = same_on (reading_at left Between c.args.self.now) (reading_at left Comment c.pass-in-comment.new.self) (reading_at left Comment c.more.new.self) passed (goes.reading Comment);

@@ -1,7 +1,8 @@
-use Rattle.std.proofs.Common.{ap, ◌∙◌, sym, rules, arith, ◌-◌, ◌+◌, ◌≡◌, ◌≤◌, ◌&&◌, not, take, drop, length, true, List, ℕ, Option, None, position}
+use Rattle.std.proofs.Common.{ap, ◌∙◌, sym, rules, arith, ◌-◌, ◌+◌, ◌≡◌, not, take, drop, length, true, List, ℕ, Option, None, position}
 use Rattle.std.proofs.lemmas.List.{take_all, take_rest}
 use Rattle.std.specs.List.{list_all}
-use Rattle.ld_words.specs.Input.{HasWord, ShowsFault, reading_at}
+use Rattle.ld_words.specs.Input.{HasWord, reading_at}
+use Rattle.ld_words.specs.Told.{ShowsFault}
 use Rattle.ld_words.specs.Reading.{Between, is_blank}
 use Rattle.ld_words.proofs.AtHand.{fit_err, fit_ok, has_on, plain_end, plain_found, plain_kept, plain_long, plain_over}
 use Rattle.ld_words.proofs.Between.{continued}

@@ -1,8 +1,9 @@
-use Rattle.std.proofs.Common.{ap, ◌∙◌, sym, rules, arith, ◌-◌, ◌+◌, ◌≡◌, ◌≤◌, ◌&&◌, not, take, drop, length, true, List, ℕ, Option, None, position, ◌<◌}
+use Rattle.std.proofs.Common.{ap, ◌∙◌, sym, rules, arith, ◌-◌, ◌+◌, ◌≡◌, ◌≤◌, not, take, drop, length, true, List, ℕ, Option, None, position, ◌<◌}
 use Rattle.std.proofs.lemmas.List.{drop-drop, drop-take, length-drop, take_all, take_rest}
 use Rattle.std.specs.List.{list_all}
 use Rattle.ld_words.specs.declared.word.TheConstants.{WORD_LIMIT}
-use Rattle.ld_words.specs.Input.{HasWord, ShowsFault, reading_at}
+use Rattle.ld_words.specs.Input.{HasWord, reading_at}
+use Rattle.ld_words.specs.Told.{ShowsFault}
 use Rattle.ld_words.specs.Reading.{Between, is_quote, line_feeds}
 use Rattle.ld_words.proofs.AtHand.{fit_err, fit_ok, has_on, quoted_end, quoted_found, quoted_kept, quoted_long, quoted_over}
 use Rattle.ld_words.proofs.Between.{continued}

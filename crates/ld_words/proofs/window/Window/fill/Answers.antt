@@ -1,4 +1,4 @@
-use Rattle.std.proofs.Common.{◌≡◌, ◌+◌, ◌-◌, ◌≤◌, List, ℕ, ap, ◌∙◌, length, length-take, length-drop, slice_range, take, drop, arith}
+use Rattle.std.proofs.Common.{◌≡◌, ◌+◌, ◌-◌, ◌≤◌, List, ℕ, ap, ◌∙◌, length, length-take, length-drop, slice_range, drop, arith}
 use Rattle.std.specs.Vec.{with_items}
 use Rattle.std.proofs.lemmas.List.{with_items_is}
 use Rattle.ld_words.proofs.Windows.{filled, length-put_mid, length-range, same_behind}
