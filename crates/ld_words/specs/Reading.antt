@@ -5,7 +5,7 @@ use Rattle.ld_words.specs.declared.word.WordFault.{WordFault}
 use Rattle.ld_words.specs.declared.word.WordFault.TheVariants as fault
 use Rattle.ld_words.specs.declared.word.TheConstants.{TEXT_LIMIT, WORD_LIMIT}
 
--- a line feed ends a line
+-- a line ends with a line feed
 abbrev pub is_line_feed : ℕ → Bool
 is_line_feed b = b == 10
 
@@ -25,11 +25,12 @@ is_quote b = b == 34
 abbrev pub line_feeds : List ℕ → ℕ
 line_feeds bytes = count_by is_line_feed bytes
 
--- the words of a text, and its first fault, or the line on which it ends
+-- how a text ends: on this line, or by its first fault
 pub data Ending : Type 0 where
   Done : ℕ → Ending
   Faulty : WordFault → Ending
 
+-- the words of a text, each with the line on which it begins, and how the text ends
 pub record Reading : Type 0 where
   pub words : List Word
   pub ending : Ending
@@ -89,8 +90,8 @@ step (Quoted word) line b = grown word b (λ w. if is_quote b then Ends w else G
 abbrev pub line_after : ℕ → ℕ → ℕ
 line_after line b = if is_line_feed b then line + 1 else line
 
--- what is read from a byte on, where `taken` bytes stand before it: nothing after a word gets too long or
--- the text does
+-- what is read from a byte on that does this, where `taken` bytes stand before it. A word that gets too long
+-- is the fault even where the text gets too long at the same byte
 abbrev pub reading_of : Step → ℕ → ℕ → (Place → Reading) → Reading
 reading_of (Long word) line taken next = faulty (fault.LongWord word.line)
 reading_of (Goes place) line taken next =

@@ -5,10 +5,10 @@ ghost use Rattle.ld_words.specs.Decimal.{has_sign, is_digit, is_negative, is_poi
 use thiserror::Error;
 
 /// The greatest coordinate; its negative is the least one.
-pub const COORDINATE_LIMIT: u128 = 2_000_000_000;
+const COORDINATE_LIMIT: u128 = 2_000_000_000;
 
 /// The greatest number of digits in a decimal.
-pub const DIGIT_LIMIT: usize = 30;
+const DIGIT_LIMIT: usize = 30;
 
 /// Two halves of 16 bits make the units of a micron.
 const HALF: u128 = 65_536;
@@ -27,9 +27,9 @@ pub enum NumberFault {
 /// A decimal in database units, of which `per_micron` make a micron: the whole number nearest to it, half a
 /// unit going away from zero.
 ///
-/// A decimal is an optional `-` or `+` and 1 to [`DIGIT_LIMIT`] digits with at most one `.` among or around
-/// them. A word that is none is `NotNumber`; `OutOfRange` comes exactly where the whole number is beyond
-/// [`COORDINATE_LIMIT`].
+/// A decimal is an optional `-` or `+` and 1 to 30 digits with at most one `.` among or around them. A word
+/// that is none is `NotNumber`. `OutOfRange` comes exactly where the whole number is below -2,000,000,000 or
+/// above 2,000,000,000.
 #[tactic(auto, unfolding(crate::specs::Decimal::units_of))]
 pub fn to_units(word: &[u8], per_micron: u32) -> Result<i64, NumberFault>
     ensures { result ≡ units_of per_micron word.now }

@@ -8,7 +8,8 @@
 //! [`to_units`] is the whole number of units that is nearest to a decimal.
 //!
 //! A text is read in pieces of 16 KiB into one buffer of 80 KiB. Each byte is looked at a fixed number of
-//! times, and a word makes one allocation. Nothing here knows keywords, names or forms of statements.
+//! times, and a word makes one allocation. A word has at most 65,535 bytes and a text fewer than 2^32.
+//! Nothing here knows keywords, names or forms of statements.
 #![tactic(auto)]
 
 pub mod decimal;
