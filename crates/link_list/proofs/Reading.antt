@@ -1,0 +1,102 @@
+-- How a list is read off the links, and how long it can be.
+use Rattle.std.proofs.Common.{◌≡◌, ◌≢◌, ◌+◌, ◌<◌, ◌≤◌, Bool, true, false, eqb, List, [], ◌∷◌, ◌++◌, ℕ, zero, suc, Option, Some, None, length, refl, sym, ap, ◌∙◌, inl, inr, arith, append-nil, ◌||◌}
+use Rattle.std.specs.Option.{unwrap_or}
+use Rattle.std.proofs.lemmas.Bool.{cases_Bool, eq-eqb, eqb-true, false≢true, false_from_ne_true, or_left, or_right}
+use Rattle.link_list.specs.declared.link.Head.{Head}
+use Rattle.link_list.specs.declared.link.Link.{Link}
+use Rattle.link_list.specs.Ids.{IsDistinct, after, first, holds, placed, placed_before, without}
+use Rattle.link_list.specs.Standing.{AreLinked, Stands, members_from, number}
+use Rattle.link_list.proofs.Linking.{member_is_cell}
+use Rattle.link_list.proofs.Members.{Parts, Split, after-split, distinct_out, holds-append, member_differs, parts_of, placed_before-split, split_at, without-split}
+
+-- a member back in its place between two parts
+back_between : (front back : List ℕ) (id : ℕ) → Parts front (id ∷ back) → placed id (first back) (front ++ back) ≡ front ++ id ∷ back
+back_between front [] id parts = ap (λ l. l ++ id ∷ []) (append-nil front)
+back_between front (y ∷ ys) id parts =
+    placed_before-split front ys id y (false_from_ne_true (holds front y) (λ both. false≢true (sym (parts.apart y both) ∙ or_right (eqb id y) (holds (y ∷ ys) y) (or_left (eqb y y) (holds ys y) (eq-eqb y y refl)))))
+
+pub back_in_place : (ids : List ℕ) (id : ℕ) → IsDistinct ids → holds ids id ≡ true → placed id (after ids id) (without id ids) ≡ ids
+back_in_place ids id distinct inside =
+    let s = split_at id ids inside in
+    let parts = parts_of s.front (id ∷ s.back) (rw s.is at distinct) in
+    ap (λ l. placed id (after l id) (without id l)) s.is
+    ∙ ap (λ o. placed id o (without id (s.front ++ id ∷ s.back))) (after-split s.front s.back id s.apart)
+    ∙ ap (placed id (first s.back)) (without-split s.front s.back id s.apart)
+    ∙ back_between s.front s.back id parts
+    ∙ sym s.is
+
+-- what two parts hold, they hold with an identifier between them
+holds_between : (front back : List ℕ) (id k : ℕ) → holds (front ++ back) k ≡ true → holds (front ++ id ∷ back) k ≡ true
+holds_between [] back id k inside = or_right (eqb id k) (holds back k) inside
+holds_between (x ∷ xs) back id k inside = elim (cases_Bool (eqb x k)) [
+  | inl e ↦ or_left (eqb x k) (holds (xs ++ id ∷ back) k) e
+  | inr e ↦ or_right (eqb x k) (holds (xs ++ id ∷ back) k) (holds_between xs back id k (rw e at inside))
+]
+
+length-between : (front back : List ℕ) (id : ℕ) → length (front ++ id ∷ back) ≡ suc (length (front ++ back))
+length-between [] back id = refl
+length-between (x ∷ xs) back id = ap suc (length-between xs back id)
+
+-- the members are numbers from 1 to a greatest one
+abbrev pub AreUpTo : ℕ → List ℕ → Type 0
+AreUpTo most ids = (id : ℕ) → holds ids id ≡ true → (1 ≤ id) × (id ≤ most)
+
+-- a list cut at the greatest number, without it
+cut_at_most : (most : ℕ) (ids : List ℕ) → IsDistinct ids → AreUpTo (suc most) ids → (s : Split (suc most) ids) → AreUpTo most (s.front ++ s.back)
+cut_at_most most ids distinct bounds s id inside =
+    let parts = parts_of s.front (suc most ∷ s.back) (rw s.is at distinct) in
+    let out : holds (s.front ++ s.back) (suc most) ≡ false = holds-append s.front s.back (suc most) ∙ or_false (holds s.front (suc most)) (holds s.back (suc most)) s.apart parts.back_distinct.0 in
+    let h = bounds id (ap (λ l. holds l id) s.is ∙ holds_between s.front s.back (suc most) id inside) in
+    let ne : id ≢ suc most = member_differs (s.front ++ s.back) id (suc most) inside out in
+    (h.0, below most id h.1 ne)
+  where
+    or_false : (a b : Bool) → a ≡ false → b ≡ false → (a || b) ≡ false
+    or_false a b p q = rw (p, q) refl
+
+    below : (most id : ℕ) → id ≤ suc most → id ≢ suc most → id ≤ most
+    below most id h ne = omega arith
+
+-- distinct numbers up to a greatest one are no more than that one
+pub length-distinct : (most : ℕ) (ids : List ℕ) → IsDistinct ids → AreUpTo most ids → length ids ≤ most
+length-distinct zero [] distinct bounds = omega arith
+length-distinct zero (x ∷ xs) distinct bounds =
+    let h = bounds x (or_left (eqb x x) (holds xs x) (eq-eqb x x refl)) in
+    absurd (omega (arith, h.0, h.1))
+length-distinct (suc most) ids distinct bounds = elim (cases_Bool (holds ids (suc most))) [
+  | inl inside ↦
+      let s = split_at (suc most) ids inside in
+      let shorter = length-distinct most (s.front ++ s.back) (distinct_out s.front s.back (suc most) (rw s.is at distinct)) (cut_at_most most ids distinct bounds s) in
+      omega (arith, shorter, ap length s.is ∙ length-between s.front s.back (suc most))
+  | inr outside ↦
+      let h = length-distinct most ids distinct (λ id inside. (
+        (bounds id inside).0,
+        smaller most id ((bounds id inside).1) (member_differs ids id (suc most) inside outside),
+      )) in
+      omega (arith, h)
+]
+  where
+    smaller : (most id : ℕ) → id ≤ suc most → id ≢ suc most → id ≤ most
+    smaller most id h ne = omega arith
+
+module _ (cell : ℕ → Bool) (link : ℕ → Link) (none : cell 0 ≡ false) where
+  some_cell : (id : ℕ) → cell id ≡ true → id ≢ 0
+  some_cell id is e = false≢true (sym none ∙ ap cell (sym e) ∙ is)
+
+  -- the members from the first one on
+  members-linked : (b : ℕ) (ids : List ℕ) (most : ℕ) → AreLinked cell link b ids 0 → length ids ≤ most → members_from link most (number (first ids)) ≡ ids
+  members-linked b [] zero h few = refl
+  members-linked b [] (suc most) h few = refl
+  members-linked b (x ∷ xs) zero h few = absurd (omega (arith, few))
+  members-linked b (zero ∷ xs) (suc most) h few = absurd (some_cell 0 h.0 refl)
+  members-linked b (suc x ∷ xs) (suc most) h few =
+      ap (λ l. suc x ∷ l) (ap (λ (l : Link). members_from link most l.after) h.1 ∙ members-linked (suc x) xs most h.2 (omega (arith, few)))
+
+  -- the list that a head stands for is read off the links
+  pub members-stands : (head : Head) (ids : List ℕ) (most : ℕ) → ((id : ℕ) → cell id ≡ true → id ≤ most) → Stands cell link head ids → members_from link most head.first ≡ ids
+  members-stands head ids most few h =
+      let up_to : AreUpTo most ids = λ id inside.
+        let is = member_is_cell cell link 0 ids 0 id h.linked inside in
+        let some = some_cell id is in
+        (omega (arith, some), few id is)
+      in
+      ap (members_from link most) h.first_member ∙ members-linked 0 ids most h.linked (length-distinct most ids h.distinct up_to)
