@@ -1,14 +1,12 @@
 -- What the changes of links do to the lists over the cells.
-use Rattle.std.proofs.Common.{◌≡◌, ◌≢◌, ◌||◌, Bool, true, false, cond, eqb, List, [], ◌∷◌, ◌++◌, ℕ, Option, Some, None, IsTrue, refl, sym, ap, ◌∙◌, inl, inr}
-use Rattle.std.specs.Option.{unwrap_or}
-use Rattle.std.specs.List.{list_any}
-use Rattle.std.proofs.lemmas.Bool.{cases_Bool, eqb-true, eqb-false, eq-eqb, ne_eqb, false≢true, false_from_ne_true, or_left, or_parts, or_right}
+use Rattle.std.proofs.Common.{◌≡◌, ◌≢◌, Bool, true, false, cond, eqb, List, [], ◌∷◌, ◌++◌, ℕ, refl, sym, ap, ◌∙◌, inl, inr}
+use Rattle.std.proofs.lemmas.Bool.{cases_Bool, eqb-false, eq-eqb, ne_eqb, false≢true, false_from_ne_true, or_left, or_parts, or_right}
 use Rattle.link_list.specs.declared.link.Link.{Link}
 use Rattle.link_list.specs.declared.link.Head.{Head}
-use Rattle.link_list.specs.Ids.{AreApart, IsDistinct, after, before, first, holds, placed, without}
+use Rattle.link_list.specs.Ids.{AreApart, after, before, first, holds, without}
 use Rattle.link_list.specs.Links.{joined, linked_between, linked_in, linked_out, with_after, with_before}
 use Rattle.link_list.specs.Standing.{AreLinked, NamesCell, Stands, last_or, named, number}
-use Rattle.link_list.proofs.Members.{Parts, Place, Split, after-split, before-split, distinct_in, distinct_out, first_in, holds-append, holds-last, last_in, member_differs, parts_of, split_at, without-split}
+use Rattle.link_list.proofs.Members.{Parts, Place, Split, after-split, before-split, distinct_in, distinct_out, first_in, holds-append, holds-last, last_in, member_differs, parts_of, without-split}
 use Rattle.link_list.proofs.Linking.{linked_back, linked_first, linked_front, linked_join, linked_kept, linked_last, member_is_cell}
 
 -- the number of the first member, where what follows the front part changed
@@ -21,7 +19,6 @@ module _ {Cells : Type 0} (with_link : Cells → ℕ → Link → Cells) (link_o
     (kept : (cells : Cells) (id other : ℕ) (link : Link) → cell cells id ≡ true → cell (with_link cells id link) other ≡ cell cells other)
     (set : (cells : Cells) (id : ℕ) (link : Link) → cell cells id ≡ true → link_of (with_link cells id link) id ≡ link)
     (others : (cells : Cells) (id other : ℕ) (link : Link) → cell cells id ≡ true → other ≢ id → link_of (with_link cells id link) other ≡ link_of cells other) where
-
   -- which identifiers name a cell stays
   pub cell-with_after : (cells : Cells) (id other k : ℕ) → NamesCell (cell cells) id → cell (with_after with_link link_of id other cells) k ≡ cell cells k
   cell-with_after cells id other k h = elim (cases_Bool (eqb id 0)) [
@@ -65,7 +62,6 @@ module _ {Cells : Type 0} (with_link : Cells → ℕ → Link → Cells) (link_o
   module _ (cells : Cells) (front back : List ℕ) (parts : Parts front back) (next prior : ℕ)
       (in_front : AreLinked (cell cells) (link_of cells) 0 front next) (in_back : AreLinked (cell cells) (link_of cells) prior back 0)
       (next' prior' : ℕ) where
-
     abbrev left : ℕ
     left = last_or 0 front
 
@@ -150,9 +146,9 @@ module _ {Cells : Type 0} (with_link : Cells → ℕ → Link → Cells) (link_o
       first_member = h.first_member;
       linked = linked_kept (cell cells) (cell ended) (link_of cells) (link_of ended) cell-ended 0 members 0 h.linked
           (λ k inside. link-ended k
-              (member_is_cell (cell cells) (link_of cells) 0 members 0 k h.linked inside)
-              (false_from_ne_true (holds front k) (λ both. false≢true (sym (apart_front k both) ∙ inside)))
-              (false_from_ne_true (holds back k) (λ both. false≢true (sym (apart_back k both) ∙ inside))));
+          (member_is_cell (cell cells) (link_of cells) 0 members 0 k h.linked inside)
+          (false_from_ne_true (holds front k) (λ both. false≢true (sym (apart_front k both) ∙ inside)))
+          (false_from_ne_true (holds back k) (λ both. false≢true (sym (apart_back k both) ∙ inside))));
       distinct = h.distinct;
     }
 
@@ -168,7 +164,6 @@ module _ {Cells : Type 0} (with_link : Cells → ℕ → Link → Cells) (link_o
   -- an identifier that enters a list between two parts
   module _ (cells : Cells) (head : Head) (id : ℕ) (front back : List ℕ) (stands : Stands (cell cells) (link_of cells) head (front ++ back))
       (outside : holds (front ++ back) id ≡ false) (is_cell : cell cells id ≡ true) where
-
     -- its own link is set first, and then those of the members beside it
     abbrev own : Cells
     own = with_link cells id (record { before = last_or 0 front; after = number (first back) })
@@ -240,7 +235,6 @@ module _ {Cells : Type 0} (with_link : Cells → ℕ → Link → Cells) (link_o
 
   -- a member that leaves a list
   module _ (cells : Cells) (head : Head) (id : ℕ) (front back : List ℕ) (stands : Stands (cell cells) (link_of cells) head (front ++ id ∷ back)) where
-
     abbrev left_cells : Cells
     left_cells = joined with_link link_of (last_or 0 front) (number (first back)) cells
 
@@ -296,7 +290,6 @@ module _ {Cells : Type 0} (with_link : Cells → ℕ → Link → Cells) (link_o
   -- an identifier that comes in its place in a list
   module _ (cells : Cells) (head : Head) (id left right : ℕ) (ids placed : List ℕ) (place : Place id left right ids placed)
       (stands : Stands (cell cells) (link_of cells) head ids) (outside : holds ids id ≡ false) (is_cell : cell cells id ≡ true) where
-
     in_parts : Stands (cell cells) (link_of cells) head (place.front ++ place.back)
     in_parts = rw place.is at stands
 
@@ -324,7 +317,6 @@ module _ {Cells : Type 0} (with_link : Cells → ℕ → Link → Cells) (link_o
 
   -- a member of a list that leaves it
   module _ (cells : Cells) (head : Head) (id : ℕ) (ids : List ℕ) (s : Split id ids) (stands : Stands (cell cells) (link_of cells) head ids) (link : Link) (link_is : link ≡ link_of cells id) where
-
     around : Stands (cell cells) (link_of cells) head (s.front ++ id ∷ s.back)
     around = rw s.is at stands
 

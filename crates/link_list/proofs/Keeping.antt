@@ -1,5 +1,5 @@
 -- What no setting of a link changes, an entry into a list and a leaving don't change.
-use Rattle.std.proofs.Common.{◌≡◌, true, false, eqb, List, ℕ, refl, ◌∙◌, inl, inr}
+use Rattle.std.proofs.Common.{◌≡◌, eqb, List, ℕ, refl, ◌∙◌, inl, inr}
 use Rattle.std.proofs.lemmas.Bool.{cases_Bool}
 use Rattle.link_list.specs.declared.link.Link.{Link}
 use Rattle.link_list.specs.Ids.{after, before}
@@ -8,7 +8,6 @@ use Rattle.link_list.specs.Standing.{number}
 
 module _ {Cells Shown : Type 0} (with_link : Cells → ℕ → Link → Cells) (link_of : Cells → ℕ → Link) (shown : Cells → Shown)
     (keeps : (cells : Cells) (id : ℕ) (link : Link) → shown (with_link cells id link) ≡ shown cells) where
-
   with_after_keeps : (id other : ℕ) (cells : Cells) → shown (with_after with_link link_of id other cells) ≡ shown cells
   with_after_keeps id other cells = elim (cases_Bool (eqb id 0)) [ inl e ↦ rw e refl | inr e ↦ rw e (keeps cells id _) ]
 

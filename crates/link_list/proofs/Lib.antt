@@ -4,3 +4,4 @@ pub mod Changes
 pub mod Walking
 pub mod Reading
 pub mod Keeping
+pub mod Vectors

@@ -1,8 +1,6 @@
 -- Lists of identifiers, cut at a member.
-use Rattle.std.proofs.Common.{◌≡◌, ◌≢◌, ◌||◌, Bool, true, false, cond, eqb, List, [], ◌∷◌, ◌++◌, ℕ, Option, Some, None, IsTrue, refl, sym, ap, ◌∙◌, inl, inr, append-nil}
-use Rattle.std.specs.Option.{MatchOption, unwrap_or}
-use Rattle.std.specs.Prelude.{⊤}
-use Rattle.std.specs.List.{list_any}
+use Rattle.std.proofs.Common.{◌≡◌, ◌≢◌, ◌||◌, true, false, eqb, List, [], ◌∷◌, ◌++◌, ℕ, Option, Some, None, IsTrue, refl, sym, ap, ◌∙◌, inl, inr, append-nil}
+use Rattle.std.specs.Option.{IfSome}
 use Rattle.std.proofs.lemmas.Bool.{cases_Bool, eqb-true, eq-eqb, false≢true, or_parts}
 use Rattle.link_list.specs.Ids.{AreApart, IsDistinct, after, before, before_from, first, holds, placed, placed_before, without}
 use Rattle.link_list.specs.Standing.{last_or, left_of, number}
@@ -155,7 +153,7 @@ pub front_place : (id : ℕ) (ids : List ℕ) (head : ℕ) → head ≡ number (
 front_place id ids head e = record { front = []; back = ids; is = refl; becomes = refl; left = refl; right = e }
 
 -- before a member, or last
-pub place_of : (id : ℕ) (ids : List ℕ) (next : Option ℕ) → MatchOption next ⊤ (λ member. IsTrue (holds ids member)) → Place id (left_of ids next) (number next) ids (placed id next ids)
+pub place_of : (id : ℕ) (ids : List ℕ) (next : Option ℕ) → IfSome next (λ member. IsTrue (holds ids member)) → Place id (left_of ids next) (number next) ids (placed id next ids)
 place_of id ids None h = record { front = ids; back = []; is = sym (append-nil ids); becomes = refl; left = refl; right = refl }
 place_of id ids (Some next) h =
     let s = split_at next ids h in

@@ -1,10 +1,9 @@
 -- How a list is read off the links, and how long it can be.
-use Rattle.std.proofs.Common.{◌≡◌, ◌≢◌, ◌+◌, ◌<◌, ◌≤◌, Bool, true, false, eqb, List, [], ◌∷◌, ◌++◌, ℕ, zero, suc, Option, Some, None, length, refl, sym, ap, ◌∙◌, inl, inr, arith, append-nil, ◌||◌}
-use Rattle.std.specs.Option.{unwrap_or}
-use Rattle.std.proofs.lemmas.Bool.{cases_Bool, eq-eqb, eqb-true, false≢true, false_from_ne_true, or_left, or_right}
+use Rattle.std.proofs.Common.{◌≡◌, ◌≢◌, ◌≤◌, Bool, true, false, eqb, List, [], ◌∷◌, ◌++◌, ℕ, zero, suc, length, refl, sym, ap, ◌∙◌, inl, inr, arith, append-nil, ◌||◌}
+use Rattle.std.proofs.lemmas.Bool.{cases_Bool, eq-eqb, false≢true, false_from_ne_true, or_left, or_right}
 use Rattle.link_list.specs.declared.link.Head.{Head}
 use Rattle.link_list.specs.declared.link.Link.{Link}
-use Rattle.link_list.specs.Ids.{IsDistinct, after, first, holds, placed, placed_before, without}
+use Rattle.link_list.specs.Ids.{IsDistinct, after, first, holds, placed, without}
 use Rattle.link_list.specs.Standing.{AreLinked, Stands, members_from, number}
 use Rattle.link_list.proofs.Linking.{member_is_cell}
 use Rattle.link_list.proofs.Members.{Parts, Split, after-split, distinct_out, holds-append, member_differs, parts_of, placed_before-split, split_at, without-split}
@@ -95,8 +94,8 @@ module _ (cell : ℕ → Bool) (link : ℕ → Link) (none : cell 0 ≡ false) w
   pub members-stands : (head : Head) (ids : List ℕ) (most : ℕ) → ((id : ℕ) → cell id ≡ true → id ≤ most) → Stands cell link head ids → members_from link most head.first ≡ ids
   members-stands head ids most few h =
       let up_to : AreUpTo most ids = λ id inside.
-        let is = member_is_cell cell link 0 ids 0 id h.linked inside in
-        let some = some_cell id is in
-        (omega (arith, some), few id is)
+      let is = member_is_cell cell link 0 ids 0 id h.linked inside in
+      let some = some_cell id is in
+      (omega (arith, some), few id is)
       in
       ap (members_from link most) h.first_member ∙ members-linked 0 ids most h.linked (length-distinct most ids h.distinct up_to)

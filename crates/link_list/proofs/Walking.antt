@@ -1,9 +1,9 @@
 -- A walk along a list to its last member.
-use Rattle.std.proofs.Common.{◌≡◌, ◌≢◌, ◌<◌, Bool, true, false, cond, eqb, List, [], ◌∷◌, ◌++◌, ℕ, suc, length, refl, sym, ap, ◌∙◌, inl, inr, arith}
-use Rattle.std.proofs.lemmas.Bool.{cases_Bool, eqb-true, eq-eqb, false≢true, false_from_ne_true, or_left, or_parts}
+use Rattle.std.proofs.Common.{◌≡◌, ◌≢◌, ◌<◌, true, false, cond, eqb, List, [], ◌∷◌, ◌++◌, ℕ, length, refl, sym, ap, ◌∙◌, inl, inr, arith}
+use Rattle.std.proofs.lemmas.Bool.{cases_Bool, eq-eqb, false≢true, false_from_ne_true, or_left, or_parts}
 use Rattle.link_list.specs.Ids.{IsDistinct, first, holds}
 use Rattle.link_list.specs.Standing.{last_or, number}
-use Rattle.link_list.proofs.Members.{Split, distinct_of, holds-append, parts_of, split_at}
+use Rattle.link_list.proofs.Members.{Split, parts_of}
 
 -- the part of a list that begins with an identifier
 abbrev pub from : ℕ → List ℕ → List ℕ

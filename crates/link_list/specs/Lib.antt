@@ -1,3 +1,4 @@
 pub mod Ids
 pub mod Links
 pub mod Standing
+pub mod VecLinks

@@ -25,8 +25,8 @@ pub trait LinkCells {
     fn set_link<L: Ledger>(&mut self, id: u32, link: Link, moves: &mut Steps<L>)
         requires { IsTrue (cell self.old id) }
         ensures cells { self.new ≡ with_link self.old id link }
-        ensures some { moves.old ≤ moves.new }
-        ensures few { moves.new ≤ moves.old + 1 };
+        ensures least { moves.old ≤ moves.new }
+        ensures most { moves.new ≤ moves.old + 1 };
 
     /// 0 names no cell.
     ghost none: { (cells : Self) → cell cells 0 ≡ false };

@@ -1,4 +1,4 @@
-ghost use Rattle.std.specs.Prelude.{◌≡◌, ◌==◌, ◌+◌, ◌≤◌, if◌then◌else◌, ◌∷◌, List, ℕ, false, IsTrue, MatchOption, ⊤};
+ghost use Rattle.std.specs.Prelude.{◌≡◌, ◌==◌, ◌+◌, ◌≤◌, if◌then◌else◌, ◌∷◌, List, ℕ, false, IfSome, IsTrue};
 ghost use Rattle.link_list.specs.Ids.{after, holds, placed, without};
 ghost use Rattle.link_list.specs.Links.{linked_in, linked_out, with_after, with_before};
 ghost use Rattle.link_list.specs.Standing.{NamesCell, OthersStand, Stands, last_or, left_of, named as named_by};
@@ -20,11 +20,11 @@ pub fn push_front<C: LinkCells, L: Ledger>(
     requires cell { IsTrue (C.cell cells.old id) }
     requires new { holds ids id ≡ false }
     ensures list { Stands (C.cell cells.new) (C.link_of cells.new) head.new (id ∷ ids) }
-    ensures named { (other : ℕ) → C.cell cells.new other ≡ C.cell cells.old other }
+    ensures kept { (other : ℕ) → C.cell cells.new other ≡ C.cell cells.old other }
     ensures others { OthersStand (C.cell cells.old) (C.link_of cells.old) (C.cell cells.new) (C.link_of cells.new) (id ∷ ids) }
     ensures cells { cells.new ≡ linked_in C.with_link C.link_of (id ∷ ids) id cells.old }
-    ensures some { moves.old ≤ moves.new }
-    ensures few { moves.new ≤ moves.old + 2 }
+    ensures least { moves.old ≤ moves.new }
+    ensures most { moves.new ≤ moves.old + 2 }
 {
     let first = head.first;
     cells.set_link(
@@ -51,11 +51,11 @@ pub fn unlink<C: LinkCells, L: Ledger>(
     requires member { IsTrue (holds ids id) }
     ensures list { Stands (C.cell cells.new) (C.link_of cells.new) head.new (without id ids) }
     ensures next { result ≡ after ids id }
-    ensures named { (other : ℕ) → C.cell cells.new other ≡ C.cell cells.old other }
+    ensures kept { (other : ℕ) → C.cell cells.new other ≡ C.cell cells.old other }
     ensures others { OthersStand (C.cell cells.old) (C.link_of cells.old) (C.cell cells.new) (C.link_of cells.new) ids }
     ensures cells { cells.new ≡ linked_out C.with_link C.link_of ids id cells.old }
-    ensures some { moves.old ≤ moves.new }
-    ensures few { moves.new ≤ moves.old + 2 }
+    ensures least { moves.old ≤ moves.new }
+    ensures most { moves.new ≤ moves.old + 2 }
 {
     let link = cells.link(id);
     set_after(cells, link.before, link.after, moves);
@@ -76,13 +76,13 @@ pub fn insert_before<C: LinkCells, L: Ledger>(
     requires list { Stands (C.cell cells.old) (C.link_of cells.old) head.old ids }
     requires cell { IsTrue (C.cell cells.old id) }
     requires new { holds ids id ≡ false }
-    requires next { MatchOption next ⊤ (λ member. IsTrue (holds ids member)) }
+    requires next { IfSome next (λ member. IsTrue (holds ids member)) }
     ensures list { Stands (C.cell cells.new) (C.link_of cells.new) head.new (placed id next ids) }
-    ensures named { (other : ℕ) → C.cell cells.new other ≡ C.cell cells.old other }
+    ensures kept { (other : ℕ) → C.cell cells.new other ≡ C.cell cells.old other }
     ensures others { OthersStand (C.cell cells.old) (C.link_of cells.old) (C.cell cells.new) (C.link_of cells.new) (placed id next ids) }
     ensures cells { cells.new ≡ linked_in C.with_link C.link_of (placed id next ids) id cells.old }
-    ensures some { moves.old ≤ moves.new }
-    ensures few { moves.new ≤ moves.old + 3 }
+    ensures least { moves.old ≤ moves.new }
+    ensures most { moves.new ≤ moves.old + 3 }
 {
     let before = place(cells, *head, next);
     let after = next.unwrap_or(0);
@@ -96,7 +96,7 @@ pub fn insert_before<C: LinkCells, L: Ledger>(
 fn place<C: LinkCells>(cells: &C, head: Head, next: Option<u32>) -> u32
     ghost ids: { List ℕ }
     requires list { Stands (C.cell cells.now) (C.link_of cells.now) head ids }
-    requires next { MatchOption next ⊤ (λ member. IsTrue (holds ids member)) }
+    requires next { IfSome next (λ member. IsTrue (holds ids member)) }
     ensures { result ≡ left_of ids next }
 {
     match next {
@@ -121,16 +121,11 @@ fn last<C: LinkCells>(cells: &C, head: Head) -> u32
 }
 
 // Sets who stands before a member; 0 names none, and nothing is set.
-fn set_before<C: LinkCells, L: Ledger>(
-    cells: &mut C,
-    id: u32,
-    other: u32,
-    moves: &mut Steps<L>,
-)
+fn set_before<C: LinkCells, L: Ledger>(cells: &mut C, id: u32, other: u32, moves: &mut Steps<L>)
     requires { NamesCell (C.cell cells.old) id }
     ensures cells { cells.new ≡ with_before C.with_link C.link_of id other cells.old }
-    ensures some { moves.old ≤ moves.new }
-    ensures few { moves.new ≤ moves.old + 1 }
+    ensures least { moves.old ≤ moves.new }
+    ensures most { moves.new ≤ moves.old + 1 }
 {
     if id != 0 {
         let after = cells.link(id).after;
@@ -143,16 +138,11 @@ fn set_before<C: LinkCells, L: Ledger>(
 }
 
 // Sets who stands after a member; 0 names none, and nothing is set.
-fn set_after<C: LinkCells, L: Ledger>(
-    cells: &mut C,
-    id: u32,
-    other: u32,
-    moves: &mut Steps<L>,
-)
+fn set_after<C: LinkCells, L: Ledger>(cells: &mut C, id: u32, other: u32, moves: &mut Steps<L>)
     requires { NamesCell (C.cell cells.old) id }
     ensures cells { cells.new ≡ with_after C.with_link C.link_of id other cells.old }
-    ensures some { moves.old ≤ moves.new }
-    ensures few { moves.new ≤ moves.old + 1 }
+    ensures least { moves.old ≤ moves.new }
+    ensures most { moves.new ≤ moves.old + 1 }
 {
     if id != 0 {
         let before = cells.link(id).before;

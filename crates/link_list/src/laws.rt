@@ -1,5 +1,5 @@
-//! Laws of lists of identifiers and of heads that stand for them. Each is the contract of a function that does
-//! nothing.
+// Laws of lists of identifiers and of heads that stand for them. Each is the contract of a function that does
+// nothing.
 
 ghost use Rattle.std.specs.Prelude.{◌≡◌, ◌≤◌, List, ℕ, true};
 ghost use Rattle.link_list.specs.Ids.{IsDistinct, after, holds, placed, without};
@@ -12,15 +12,13 @@ use crate::cells::LinkCells;
 /// is back in its place.
 pub fn put_back()
     ensures { (ids : List ℕ) (id : ℕ) → IsDistinct ids → holds ids id ≡ true → placed id (after ids id) (without id ids) ≡ ids }
-{
-}
+{}
 
 /// The list that a head stands for is read off the links, so it stands for one list. No more members need to
 /// be read than the greatest identifier of a cell.
 pub fn read_off<C: LinkCells>()
-    ensures { (cells : C) (first : head) (ids : List ℕ) (most : ℕ)
+    ensures { (cells : C) (list : head) (ids : List ℕ) (most : ℕ)
         → ((id : ℕ) → C.cell cells id ≡ true → id ≤ most)
-        → Stands (C.cell cells) (C.link_of cells) first ids
-        → members_from (C.link_of cells) most first.first ≡ ids }
-{
-}
+        → Stands (C.cell cells) (C.link_of cells) list ids
+        → members_from (C.link_of cells) most list.first ≡ ids }
+{}

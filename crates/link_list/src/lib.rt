@@ -21,6 +21,7 @@ pub mod link;
 
 pub use cells::LinkCells;
 pub use edits::{insert_before, push_front, unlink};
+pub use laws::{put_back, read_off};
 pub use link::{Head, Link};
 
 #[cfg(test)]

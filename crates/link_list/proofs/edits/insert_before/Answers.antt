@@ -1,5 +1,3 @@
-use Rattle.std.proofs.Common.{◌∙◌, sym}
-use Rattle.std.specs.Option.{unwrap_or}
 use Rattle.link_list.specs.Ids.{placed}
 use Rattle.link_list.specs.Standing.{left_of, number}
 use Rattle.link_list.proofs.Changes.{enter_cells, enter_left, enter_list, enter_named, enter_others, enter_right}
@@ -30,8 +28,8 @@ returns-clause-list g c =
     rw (c.set_first.ensures, c.set_before.ensures.cells, c.set_after.ensures.cells, c.set_link.ensures.cells, c.place-before.ensures, c.unwrap_or-after.ensures)
     (enter_list cells.with_link cells.link_of cells.cell laws.none laws.kept laws.set laws.others c.args.cells.now c.args.head.now c.args.id (left_of g.ids c.args.next) (number c.args.next) g.ids (placed c.args.id c.args.next g.ids) place c.requires.1.1.0 c.requires.1.1.1.1.0 c.requires.1.1.1.0)
 
-pub returns-clause-named : goal.returns-clause-named
-returns-clause-named g c =
+pub returns-clause-kept : goal.returns-clause-kept
+returns-clause-kept g c =
     let cells = g.C.LinkCells in
     let laws = g.met.C.LinkCells in
     let place = place_of c.args.id g.ids c.args.next c.requires.1.1.1.1.1 in

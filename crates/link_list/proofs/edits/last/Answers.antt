@@ -1,9 +1,7 @@
-use Rattle.std.proofs.Common.{◌≡◌, ◌∙◌, true}
-use Rattle.link_list.specs.Ids.{holds}
 use Rattle.link_list.proofs.Changes.{after-is, zero_outside}
 use Rattle.link_list.proofs.Linking.{member_is_cell}
 use Rattle.link_list.proofs.Members.{split_at}
-use Rattle.link_list.proofs.Walking.{from-first, step_of, walk_end, walk_first, walk_last, walk_member, walk_shorter}
+use Rattle.link_list.proofs.Walking.{step_of, walk_end, walk_first, walk_last, walk_member, walk_shorter}
 use Rattle.link_list.proofs.edits.last.Goals as goal
 
 pub link-next-requires : goal.link-next-requires

@@ -35,8 +35,8 @@ returns-clause-next g c =
     c.named.ensures
     ∙ leave_next cells.with_link cells.link_of cells.cell laws.none laws.kept laws.set laws.others c.args.cells.now c.args.head.now c.args.id g.ids (split_at c.args.id g.ids c.requires.1.1.1) c.requires.1.1.0 c.link-link.result c.link-link.ensures
 
-pub returns-clause-named : goal.returns-clause-named
-returns-clause-named g c =
+pub returns-clause-kept : goal.returns-clause-kept
+returns-clause-kept g c =
     let cells = g.C.LinkCells in
     let laws = g.met.C.LinkCells in
     rw (c.set_before.ensures.cells, c.set_after.ensures.cells)
