@@ -1,0 +1,5 @@
+pub mod Chains
+pub mod Maps
+pub mod Buckets
+pub mod Dropping
+pub mod Effects

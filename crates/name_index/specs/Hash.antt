@@ -1,0 +1,16 @@
+-- The hash of a name, and the bucket to which it belongs.
+use Rattle.std.specs.Prelude.{◌+◌, ◌*◌, ◌/◌, ◌%◌, ◌^◌, List, ℕ, bit_xor}
+use Rattle.std.specs.List.{fold}
+use Rattle.name_index.specs.declared.hash.TheConstants.{OFFSET_BASIS, PRIME}
+
+-- one more byte is hashed
+abbrev pub with_byte : ℕ → ℕ → ℕ
+with_byte hash byte = bit_xor hash byte * PRIME % 2 ^ 64
+
+-- the 64-bit FNV-1a hash of the bytes
+unfoldable pub hash : List ℕ → ℕ
+hash name = fold with_byte OFFSET_BASIS name
+
+-- which of so many buckets a name belongs to: its hash with the upper half folded onto the lower, modulo the number
+unfoldable pub bucket_at : ℕ → List ℕ → ℕ
+bucket_at buckets name = bit_xor (hash name) (hash name / 2 ^ 32) % buckets

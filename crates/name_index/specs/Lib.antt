@@ -1,0 +1,5 @@
+pub mod Chain
+pub mod Hash
+pub mod Index
+pub mod Names
+pub mod Rechained
