@@ -3,3 +3,5 @@ pub mod Maps
 pub mod Buckets
 pub mod Dropping
 pub mod Effects
+pub mod Gathering
+pub mod Refilling

@@ -1,4 +1,5 @@
 pub mod Chain
+pub mod Gathered
 pub mod Hash
 pub mod Index
 pub mod Names

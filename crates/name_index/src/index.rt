@@ -1,5 +1,6 @@
-ghost use Rattle.std.specs.Prelude.{◌≡◌, ◌+◌, ◌≤◌, Bool, List, ℕ, None, Some, IsTrue, OnErr, OnOk, length};
+ghost use Rattle.std.specs.Prelude.{◌≡◌, ◌+◌, ◌≤◌, Bool, List, ℕ, None, Some, IfOk, IsTrue, OnErr, OnOk, length};
 ghost use Rattle.std.specs.FinMap as map;
+ghost use Rattle.name_index.specs.Gathered.{AreIds};
 ghost use Rattle.name_index.specs.Index.{Stands, spare};
 ghost use Rattle.name_index.specs.Names.{HasId, Names};
 ghost use Rattle.name_index.specs.Rechained.{Rechained};
@@ -7,10 +8,11 @@ ghost use Rattle.name_index.specs.Rechained.{Rechained};
 use crate::cells::ChainCells;
 use crate::chain::{find_from, list_chains, put, take_out};
 use crate::hash::bucket;
+use crate::rehash::{empty_heads, refill};
 use odb_base::Steps;
 use std::alloc::{AllocError, Global};
-use std::marker::Model;
-use std::sync::ledger::Ledger;
+use std::marker::{Brand, Model};
+use std::sync::ledger::{Blank, Ledger};
 
 /// Which object has a name. Contracts see the first object of each chain and the number of names held, and say
 /// over which cells the index stands for which map.
@@ -54,6 +56,39 @@ impl NameIndex {
         }
         let bucket = bucket(name, self.heads.len());
         find_from(cells, self.heads[bucket], self.held, name)
+    }
+
+    /// Makes room for so many more names. The chains that it writes are counted on a counter of its own. Where
+    /// memory is wanting, all is as before.
+    pub fn reserve<C: ChainCells>(&mut self, cells: &mut C, n: u32) -> Result<(), AllocError>
+        ghost names: { Names }
+        requires { Stands (C.cell cells.old) (C.name_of cells.old) (C.chain_of cells.old) self.old names }
+        ensures stands { Stands (C.cell cells.new) (C.name_of cells.new) (C.chain_of cells.new) self.new names }
+        ensures room { OnOk result (n ≤ spare self.new) }
+        ensures spare { spare self.old ≤ spare self.new }
+        ensures kept { (other : ℕ) → C.cell cells.new other ≡ C.cell cells.old other }
+        ensures named { (other : ℕ) → C.name_of cells.new other ≡ C.name_of cells.old other }
+        ensures cells { Rechained C.with_chain (HasId names) cells.old cells.new }
+        ensures err { OnErr result ((self.new ≡ self.old) × (cells.new ≡ cells.old)) }
+    {
+        let needed = self.held + n as usize;
+        if needed <= self.heads.len() {
+            return Ok(());
+        }
+        let ids = self.ids(cells)?;
+        let mut heads = empty_heads(*self.heads.allocator(), needed.next_power_of_two())?;
+        refill::<C, Brand>(cells, &mut heads, &ids, Blank::new(1));
+        self.heads = heads;
+        Ok(())
+    }
+
+    // All objects whose names are held.
+    fn ids<C: ChainCells>(&self, cells: &C) -> Result<Vec<u32>, AllocError>
+        ghost names: { Names }
+        requires { Stands (C.cell cells.now) (C.name_of cells.now) (C.chain_of cells.now) self.now names }
+        ensures { IfOk result (λ ids. AreIds (C.cell cells.now) (C.name_of cells.now) ids.items names) }
+    {
+        list_chains(*self.heads.allocator(), cells, &self.heads, self.held)
     }
 
     /// Adds the name of an object, which no other has. This is one step at most.

@@ -18,6 +18,7 @@ pub mod cells;
 pub mod chain;
 pub mod hash;
 pub mod index;
+pub mod rehash;
 
 pub use cells::ChainCells;
 pub use index::NameIndex;
