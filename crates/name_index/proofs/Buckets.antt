@@ -1,6 +1,6 @@
 -- How an index stands for its map, and goes on doing so.
 use Rattle.std.proofs.Common.{◌≡◌, ◌≢◌, ◌+◌, ◌-◌, ◌≤◌, ◌<◌, ◌||◌, Bool, true, false, cond, eqb, List, [], ◌∷◌, ℕ, zero, suc, Option, Some, None, IsTrue, length, get_or, set, refl, sym, ap, ◌∙◌, inl, inr, ◌⊎◌, arith, length-set, get_or-set_same, get_or-set_other}
-use Rattle.std.specs.FinMap.{empty, empty_of_len, get, get-empty, insert, remove, len, len-empty}
+use Rattle.std.specs.FinMap.{empty, get, get-empty, insert, remove, len, len-empty}
 use Rattle.std.specs.List.{find, list_any}
 use Rattle.std.specs.Prelude.{slice_index, slice_set, bit_xor}
 use Rattle.std.specs.Cmp.Lexicographic.{slice_cmp}
@@ -56,7 +56,7 @@ module _ (cell : ℕ → Bool) (name : ℕ → List ℕ) (chain : ℕ → ℕ) (
   -- no chain is longer than the number of names held
   pub length-chains : (bucket : ℕ) → length (stands.chains bucket) ≤ index.held
   length-chains bucket =
-      let h = length-named name (stands.chains bucket) names (stands.distinct bucket) (λ id inside. (stands.listed bucket id inside).1) in
+      let h = length-named name (stands.chains bucket) names (stands.distinct bucket) (λ id inside. (stands.listed bucket id inside).2) in
       omega (arith, h, stands.counted)
 
   pub chains-are : cell 0 ≡ false → (bucket : ℕ) → bucket < length index.heads → ids_from chain index.held (slice_index index.heads bucket) ≡ stands.chains bucket
@@ -92,10 +92,10 @@ found_none name bytes (x ∷ xs) none = elim (cases_Bool (bytes_eq (name x) byte
 
 module _ (cell : ℕ → Bool) (name : ℕ → List ℕ) (chain : ℕ → ℕ) (index : Index) (names : Names) (stands : Stands cell name chain index names) where
   find_by : (bytes : List ℕ) (o : Option ℕ) → get names bytes ≡ o → find (λ k. bytes_eq (name k) bytes) (stands.chains (bucket_at (length index.heads) bytes)) ≡ o
-  find_by bytes None e = found_none name bytes _ (λ k inside same. not_None (get names bytes) k e (ap (get names) (sym same) ∙ (stands.listed _ k inside).1))
+  find_by bytes None e = found_none name bytes _ (λ k inside same. not_None (get names bytes) k e (ap (get names) (sym same) ∙ (stands.listed _ k inside).2))
   find_by bytes (Some id) e =
       let there = stands.found bytes id e in
-      found_at name bytes _ id there.1 there.0 (λ k inside same. same_Some k id (sym (stands.listed _ k inside).1 ∙ ap (get names) same ∙ e))
+      found_at name bytes _ id there.1 there.0 (λ k inside same. same_Some k id (sym (stands.listed _ k inside).2 ∙ ap (get names) same ∙ e))
 
   -- what is found in a name's bucket is what the map has under it
   pub find-bucket : cell 0 ≡ false → (bytes : List ℕ) → 0 < length index.heads → find (λ k. bytes_eq (name k) bytes) (ids_from chain index.held (slice_index index.heads (bucket_at (length index.heads) bytes))) ≡ get names bytes
@@ -112,10 +112,14 @@ module _ (cell : ℕ → Bool) (name : ℕ → List ℕ) (chain : ℕ → ℕ) (
       rw e (bucket_cells cell name chain index names stands none (bucket_at (length index.heads) bytes) (bucket_at-lt (length index.heads) bytes some))
 
   -- without buckets nothing is held
-  pub get-no_buckets : (bytes : List ℕ) → index.held ≤ length index.heads → length index.heads ≡ 0 → get names bytes ≡ None
-  get-no_buckets bytes fits none =
-      let no_names : len names ≡ 0 = omega (arith, stands.counted) in
-      ap (λ m. get m bytes) (empty_of_len names no_names) ∙ get-empty (slice_cmp nat_cmp) bytes
+  pub get-no_buckets : (bytes : List ℕ) → length index.heads ≡ 0 → get names bytes ≡ None
+  get-no_buckets bytes nothing = by_cases (get names bytes) refl
+    where
+      by_cases : (o : Option ℕ) → get names bytes ≡ o → get names bytes ≡ None
+      by_cases None e = e
+      by_cases (Some id) e =
+          let within = (stands.listed (bucket_at (length index.heads) bytes) id (stands.found bytes id e).1).0 in
+          absurd (omega (arith, within, nothing))
 
 -- chains of nothing stand for the empty map
 pub stands_none : (cell : ℕ → Bool) (name : ℕ → List ℕ) (chain : ℕ → ℕ) (heads : List ℕ) → ((k : ℕ) → k < length heads → slice_index heads k ≡ 0) → Stands cell name chain (record { heads = heads; held = 0 }) empty
@@ -151,7 +155,7 @@ module _ (cell cell' : ℕ → Bool) (name name' : ℕ → List ℕ) (chain chai
   added = record { heads = slice_set index.heads at id; held = index.held + 1 }
 
   outside : (k : ℕ) → holds (stands.chains k) id ≡ false
-  outside k = false_from_ne_true (holds (stands.chains k) id) (λ inside. not_None (get names (name id)) id new (stands.listed k id inside).1)
+  outside k = false_from_ne_true (holds (stands.chains k) id) (λ inside. not_None (get names (name id)) id new (stands.listed k id inside).2)
 
   kept_chain : (k : ℕ) → k < length index.heads → IsChain cell' chain' (slice_index index.heads k) (stands.chains k)
   kept_chain k h = chain_kept cell cell' chain chain' same_cell (slice_index index.heads k) (stands.chains k)
@@ -180,17 +184,18 @@ module _ (cell cell' : ℕ → Bool) (name name' : ℕ → List ℕ) (chain chai
   bucket-name : (k j : ℕ) → k ≡ bucket_at (length index.heads) (name j) → k ≡ bucket_at (length (slice_set index.heads at id)) (name' j)
   bucket-name k j e = e ∙ sym (ap (λ n. bucket_at n (name' j)) (length-set index.heads at id) ∙ ap (bucket_at (length index.heads)) (same_name j))
 
-  old_listed : (k j : ℕ) → holds (stands.chains k) j ≡ true → (k ≡ bucket_at (length (slice_set index.heads at id)) (name' j)) × (get (insert names (name id) id) (name' j) ≡ Some j)
+  old_listed : (k j : ℕ) → holds (stands.chains k) j ≡ true → (k < length (slice_set index.heads at id)) × (k ≡ bucket_at (length (slice_set index.heads at id)) (name' j)) × (get (insert names (name id) id) (name' j) ≡ Some j)
   old_listed k j inside =
       let h = stands.listed k j inside in
       (
-        bucket-name k j h.0,
+        omega (arith, h.0, length-set index.heads at id),
+        bucket-name k j h.1,
         ap (get (insert names (name id) id)) (same_name j)
-        ∙ get-insert_other names (name id) id (name j) (λ e. not_None (get names (name id)) j new (ap (get names) (sym e) ∙ h.1))
-        ∙ h.1,
+        ∙ get-insert_other names (name id) id (name j) (λ e. not_None (get names (name id)) j new (ap (get names) (sym e) ∙ h.2))
+        ∙ h.2,
       )
 
-  listed' : (k j : ℕ) → holds (chains' k) j ≡ true → (k ≡ bucket_at (length (slice_set index.heads at id)) (name' j)) × (get (insert names (name id) id) (name' j) ≡ Some j)
+  listed' : (k j : ℕ) → holds (chains' k) j ≡ true → (k < length (slice_set index.heads at id)) × (k ≡ bucket_at (length (slice_set index.heads at id)) (name' j)) × (get (insert names (name id) id) (name' j) ≡ Some j)
   listed' k j inside = elim (cases_eq k at) [
     | inl e ↦
         let either = or_cases (eqb id j) (holds (stands.chains k) j) (ap (λ l. holds l j) (sym (at_same k at (id ∷ stands.chains k) (stands.chains k) e)) ∙ inside) in
@@ -198,6 +203,7 @@ module _ (cell cell' : ℕ → Bool) (name name' : ℕ → List ℕ) (chain chai
           | inl here ↦
               let same = eqb-true id j here in
               (
+                omega (arith, e, bucket_at-lt (length index.heads) (name id) some, length-set index.heads at id),
                 bucket-name k j (e ∙ ap (λ i. bucket_at (length index.heads) (name i)) same),
                 ap (get (insert names (name id) id)) (same_name j ∙ ap name (sym same)) ∙ get-insert_same names (name id) id ∙ ap Some same,
               )

@@ -163,18 +163,19 @@ module _ (cell cell' : ℕ → Bool) (name name' : ℕ → List ℕ) (chain chai
         )
     | inr ne ↦
         let h : holds (stands.chains k) j ≡ true = ap (λ l. holds l j) (sym (at_other k at (without id (stands.chains k)) (stands.chains k) ne)) ∙ inside in
-        (h, λ same. ne ((stands.listed k j h).0 ∙ ap (λ i. bucket_at (length index.heads) (name i)) same))
+        (h, λ same. ne ((stands.listed k j h).1 ∙ ap (λ i. bucket_at (length index.heads) (name i)) same))
   ]
 
-  listed' : (k j : ℕ) → holds (chains' k) j ≡ true → (k ≡ bucket_at (length heads') (name' j)) × (get (remove names (name id)) (name' j) ≡ Some j)
+  listed' : (k j : ℕ) → holds (chains' k) j ≡ true → (k < length heads') × (k ≡ bucket_at (length heads') (name' j)) × (get (remove names (name id)) (name' j) ≡ Some j)
   listed' k j inside =
       let left = left_in k j inside in
       let old = stands.listed k j left.0 in
       (
-        old.0 ∙ sym (ap (λ n. bucket_at n (name' j)) same_length ∙ ap (bucket_at (length index.heads)) (same_name j)),
+        omega (arith, old.0, same_length),
+        old.1 ∙ sym (ap (λ n. bucket_at n (name' j)) same_length ∙ ap (bucket_at (length index.heads)) (same_name j)),
         ap (get (remove names (name id))) (same_name j)
-        ∙ get-remove_other names (name id) (name j) (λ e. left.1 (same_Some j id (sym old.1 ∙ ap (get names) e ∙ is_held)))
-        ∙ old.1,
+        ∙ get-remove_other names (name id) (name j) (λ e. left.1 (same_Some j id (sym old.2 ∙ ap (get names) e ∙ is_held)))
+        ∙ old.2,
       )
 
   in_bucket : (k j : ℕ) → j ≢ id → holds (stands.chains k) j ≡ true → holds (chains' k) j ≡ true

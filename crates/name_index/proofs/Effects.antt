@@ -93,7 +93,7 @@ module _ {Cells : Type 0} (with_chain : Cells → ℕ → ℕ → Cells) (cell :
           (λ k apart. others cells before k (chain_of cells id) is_cell (λ e. apart (e ∙ before-is))))
         (λ k apart h. chain_kept (cell cells) (cell new) (chain_of cells) (chain_of new) (λ j. kept cells before j (chain_of cells id) is_cell) (slice_index index.heads k) (stands.chains k)
           (λ j there. others cells before j (chain_of cells id) is_cell
-            (λ e. apart ((stands.listed k j there).0 ∙ ap (λ i. bucket_at (length index.heads) (name_of cells i)) e ∙ sym (stands.listed at before (before_inside ne)).0)))
+            (λ e. apart ((stands.listed k j there).1 ∙ ap (λ i. bucket_at (length index.heads) (name_of cells i)) e ∙ sym (stands.listed at before (before_inside ne)).1)))
           (stands.linked k h))
 
     pub drop_stands : (new : Cells) (heads' : List ℕ) → heads' ≡ dropped_heads → new ≡ dropped_cells → Stands (cell new) (name_of new) (chain_of new) (record { heads = heads'; held = index.held - 1 }) (remove names (name_of cells id))
@@ -119,7 +119,7 @@ module _ {Cells : Type 0} (with_chain : Cells → ℕ → ℕ → Cells) (cell :
       | inl e ↦ record { sets = []; each = tt; is = cells-is ∙ first_cells e }
       | inr e ↦ record {
           sets = (before, chain_of cells id) ∷ [];
-          each = ((name_of cells before, (stands.listed at before (before_inside (eqb-false before 0 e))).1), tt);
+          each = ((name_of cells before, (stands.listed at before (before_inside (eqb-false before 0 e))).2), tt);
           is = cells-is ∙ later_cells e;
         }
     ]

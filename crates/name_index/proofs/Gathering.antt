@@ -1,16 +1,18 @@
 -- The identifiers in all chains are those of the map.
 use Rattle.std.proofs.Common.{◌≡◌, ◌≢◌, ◌+◌, ◌-◌, ◌≤◌, ◌<◌, ◌||◌, Bool, true, false, eqb, List, [], ◌∷◌, ◌++◌, ℕ, zero, suc, Option, Some, None, IsTrue, length, get_or, refl, sym, ap, ◌∙◌, inl, inr, ◌⊎◌, arith}
-use Rattle.std.specs.FinMap.{get}
+use Rattle.std.specs.FinMap.{get, get-empty, insert}
 use Rattle.std.specs.List.{flat_map, list_any}
+use Rattle.std.specs.Cmp.Lexicographic.{slice_cmp}
+use Rattle.std.specs.Ordering.{nat_cmp}
 use Rattle.std.specs.Prelude.{slice_index}
-use Rattle.std.proofs.lemmas.Bool.{eq-eqb, false≢true, false_from_ne_true, or_cases, or_left, or_right}
+use Rattle.std.proofs.lemmas.Bool.{eq-eqb, eqb-true, false≢true, false_from_ne_true, or_cases, or_left, or_right}
 use Rattle.name_index.specs.Chain.{AreCells, IsChain, IsDistinct, holds, ids_from}
 use Rattle.name_index.specs.Gathered.{AreIds}
 use Rattle.name_index.specs.Hash.{bucket_at}
-use Rattle.name_index.specs.Index.{Index, Stands}
+use Rattle.name_index.specs.Index.{Index, Stands, names_in, names_of}
 use Rattle.name_index.specs.Names.{Names}
 use Rattle.name_index.proofs.Buckets.{bucket_at-lt, chain_cells, chains-are}
-use Rattle.name_index.proofs.Maps.{some_len}
+use Rattle.name_index.proofs.Maps.{cases_name, get-insert_other, get-insert_same, not_None, same_Some, same_names, some_len}
 use Rattle.name_index.proofs.Refilling.{holds-append}
 
 -- two lists without repeats and without a common identifier make one
@@ -49,7 +51,7 @@ module _ (cell : ℕ → Bool) (name : ℕ → List ℕ) (chain : ℕ → ℕ) (
       elim either [
         | inl here ↦
             let old = stands.listed k id (ap (λ l. holds l id) (sym (this_bucket k first heads h)) ∙ here) in
-            (omega (arith, old.0), old.1)
+            (omega (arith, old.1), old.2)
         | inr there ↦
             let old = gathered_at (suc k) heads (next_bucket k first heads h) id there in
             (omega (arith, old.0), old.1)
@@ -62,7 +64,7 @@ module _ (cell : ℕ → Bool) (name : ℕ → List ℕ) (chain : ℕ → ℕ) (
       (rw (this_bucket k first heads h) (stands.distinct k))
       (gathered_distinct (suc k) heads (next_bucket k first heads h))
       (λ id here. false_from_ne_true (holds (gathered heads) id) (λ there.
-        let at = (stands.listed k id (ap (λ l. holds l id) (sym (this_bucket k first heads h)) ∙ here)).0 in
+        let at = (stands.listed k id (ap (λ l. holds l id) (sym (this_bucket k first heads h)) ∙ here)).1 in
         let later = (gathered_at (suc k) heads (next_bucket k first heads h) id there).0 in
         absurd (omega (arith, at, later))))
 
@@ -86,18 +88,54 @@ module _ (cell : ℕ → Bool) (name : ℕ → List ℕ) (chain : ℕ → ℕ) (
   gathered_some [] id inside = absurd (false≢true inside)
   gathered_some (first ∷ heads) id inside = omega arith
 
-  pub gathered_ids : index.held ≤ length index.heads → AreIds cell name (flat_map (ids_from chain index.held) index.heads) names
-  gathered_ids fits = record {
+  pub gathered_ids : AreIds cell name (flat_map (ids_from chain index.held) index.heads) names
+  gathered_ids = record {
     distinct = gathered_distinct 0 index.heads all_buckets;
     each = λ id inside.
         let h = (gathered_at 0 index.heads all_buckets id inside).1 in
         (named_cell id h (gathered_some index.heads id inside), h);
     all = λ bytes id h.
         let old = stands.found bytes id h in
-        let some : 0 < length index.heads = held_heads bytes id h in
+        let within = (stands.listed (bucket_at (length index.heads) bytes) id old.1).0 in
         let at : 0 + bucket_at (length index.heads) bytes ≡ bucket_at (length index.heads) bytes = omega arith in
-        (old.0, gathered_in 0 index.heads all_buckets (bucket_at (length index.heads) bytes) id (bucket_at-lt (length index.heads) bytes some) (ap (λ n. holds (stands.chains n) id) at ∙ old.1));
+        (old.0, gathered_in 0 index.heads all_buckets (bucket_at (length index.heads) bytes) id within (ap (λ n. holds (stands.chains n) id) at ∙ old.1));
   }
-    where
-      held_heads : (bytes : List ℕ) (id : ℕ) → get names bytes ≡ Some id → 0 < length index.heads
-      held_heads bytes id h = let some = some_len names bytes id h in omega (arith, some, stands.counted, fits)
+
+-- what a map of identifiers has under the name of one of them, and under a name that none has
+names_of-has : (name : ℕ → List ℕ) (ids : List ℕ) (id : ℕ) → holds ids id ≡ true → ((k : ℕ) → holds ids k ≡ true → name k ≡ name id → k ≡ id) → get (names_of name ids) (name id) ≡ Some id
+names_of-has name [] id inside only = absurd (false≢true inside)
+names_of-has name (x ∷ xs) id inside only = elim (cases_name (name id) (name x)) [
+  | inl e ↦
+      let same = only x (or_left (eqb x x) (holds xs x) (eq-eqb x x refl)) (sym e) in
+      ap (get (insert (names_of name xs) (name x) x)) e ∙ get-insert_same (names_of name xs) (name x) x ∙ ap Some same
+  | inr ne ↦
+      let there = elim (or_cases (eqb x id) (holds xs id) inside) as (λ _. holds xs id ≡ true) [
+        | inl here ↦ absurd (ne (ap name (sym (eqb-true x id here))))
+        | inr later ↦ later
+      ] in
+      get-insert_other (names_of name xs) (name x) x (name id) ne ∙ names_of-has name xs id there (λ k inner. only k (or_right (eqb x k) (holds xs k) inner))
+]
+
+names_of-lacks : (name : ℕ → List ℕ) (ids : List ℕ) (bytes : List ℕ) → ((k : ℕ) → holds ids k ≡ true → name k ≢ bytes) → get (names_of name ids) bytes ≡ None
+names_of-lacks name [] bytes none = get-empty (slice_cmp nat_cmp) bytes
+names_of-lacks name (x ∷ xs) bytes none =
+    get-insert_other (names_of name xs) (name x) x bytes (λ e. none x (or_left (eqb x x) (holds xs x) (eq-eqb x x refl)) (sym e))
+    ∙ names_of-lacks name xs bytes (λ k inner. none k (or_right (eqb x k) (holds xs k) inner))
+
+-- a map is that of its identifiers
+names_of-are : (cell : ℕ → Bool) (name : ℕ → List ℕ) (ids : List ℕ) (names : Names) → AreIds cell name ids names → names_of name ids ≡ names
+names_of-are cell name ids names are = same_names (names_of name ids) names (λ bytes. at bytes (get names bytes) refl)
+  where
+    at : (bytes : List ℕ) (o : Option ℕ) → get names bytes ≡ o → get (names_of name ids) bytes ≡ get names bytes
+    at bytes None e =
+        names_of-lacks name ids bytes (λ k inside same. not_None (get names bytes) k e (ap (get names) (sym same) ∙ (are.each k inside).1)) ∙ sym e
+    at bytes (Some id) e =
+        let here = are.all bytes id e in
+        ap (get (names_of name ids)) (sym here.0)
+        ∙ names_of-has name ids id here.1 (λ k inside same. same_Some k id (sym (are.each k inside).1 ∙ ap (get names) (same ∙ here.0) ∙ e))
+        ∙ sym e
+
+-- the map that an index stands for is read off its chains
+pub names_in-stands : (cell : ℕ → Bool) (name : ℕ → List ℕ) (chain : ℕ → ℕ) (index : Index) (names : Names) → cell 0 ≡ false → Stands cell name chain index names → names_in name chain index ≡ names
+names_in-stands cell name chain index names none stands =
+    names_of-are cell name (flat_map (ids_from chain index.held) index.heads) names (gathered_ids cell name chain index names stands none)

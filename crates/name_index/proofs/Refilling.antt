@@ -64,24 +64,6 @@ refilled_none cell name chain heads nothing =
       to = λ id inside. absurd (false≢true inside);
     }
 
--- all of them are done
-pub refilled_all : (cell cell' : ℕ → Bool) (name name' : ℕ → List ℕ) (chain : ℕ → ℕ) (heads ids : List ℕ) (names : Names) → ((k : ℕ) → name' k ≡ name k) → AreIds cell name ids names → Refilled cell' name' chain heads ids → Stands cell' name' chain (record { heads = heads; held = len names }) names
-refilled_all cell cell' name name' chain heads ids names same are refilled =
-    let P : Names → Type 0 = λ m. Stands cell' name' chain (record { heads = heads; held = len m }) m in
-    subst P (same_names refilled.part names (λ q. alike q (get names q) refl)) refilled.stands
-  where
-    alike : (q : List ℕ) (o : Option ℕ) → get names q ≡ o → get refilled.part q ≡ get names q
-    alike q None e = none (get refilled.part q) refl
-      where
-        none : (o : Option ℕ) → get refilled.part q ≡ o → get refilled.part q ≡ get names q
-        none None h = h ∙ sym e
-        none (Some id) h =
-            let got = refilled.from q id h in
-            absurd (not_None (get names q) id e (ap (get names) (sym got.0 ∙ same id) ∙ (are.each id got.1).1))
-    alike q (Some id) e =
-        let here = are.all q id e in
-        ap (get refilled.part) (sym here.0 ∙ sym (same id)) ∙ refilled.to id here.1 ∙ sym e
-
 -- cells of which one more chain is set
 pub with_chains-push : {Cells : Type 0} (with_chain : Cells → ℕ → ℕ → Cells) (sets : List (ℕ × ℕ)) (id next : ℕ) (cells : Cells) → with_chains with_chain (sets ++ (id, next) ∷ []) cells ≡ with_chain (with_chains with_chain sets cells) id next
 with_chains-push with_chain [] id next cells = refl

@@ -8,7 +8,7 @@ returns-then-is_empty g c =
     let cells = g.C.ChainCells in
     let stands = rw (← c.self.view_is) at c.requires.1 in
     let none : length c.self.inside.heads.items ≡ 0 = omega (arith, c.self.inside.heads.ok.0, eqb-true _ 0 (sym c.is_empty.ensures ∙ c.if-is_empty.true)) in
-    sym (get-no_buckets (cells.cell c.args.cells.now) (cells.name_of c.args.cells.now) (cells.chain_of c.args.cells.now) _ g.names stands c.args.name.now (omega (arith, c.self.inside.heads.ok.0, c.self.invariant)) none)
+    sym (get-no_buckets (cells.cell c.args.cells.now) (cells.name_of c.args.cells.now) (cells.chain_of c.args.cells.now) _ g.names stands c.args.name.now none)
 
 pub find_from-requires : goal.find_from-requires
 find_from-requires g c =

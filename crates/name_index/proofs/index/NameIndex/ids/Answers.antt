@@ -18,7 +18,7 @@ pub returns : goal.returns
 returns g c =
     let meaning = g.C.ChainCells in
     let stands = rw (← c.self.view_is) at c.requires.1 in
-    let are = gathered_ids (meaning.cell c.args.cells.now) (meaning.name_of c.args.cells.now) (meaning.chain_of c.args.cells.now) _ g.names stands (g.met.C.ChainCells.none c.args.cells.now) (omega (arith, c.self.invariant, c.self.inside.heads.ok.0)) in
+    let are = gathered_ids (meaning.cell c.args.cells.now) (meaning.name_of c.args.cells.now) (meaning.chain_of c.args.cells.now) _ g.names stands (g.met.C.ChainCells.none c.args.cells.now) in
     IfOk-weaker c.list_chains.result
     (λ ids. ids.items ≡ flat_map (ids_from (meaning.chain_of c.args.cells.now) c.self.inside.held) c.self.inside.heads.items)
     (λ ids. AreIds (meaning.cell c.args.cells.now) (meaning.name_of c.args.cells.now) ids.items g.names)
