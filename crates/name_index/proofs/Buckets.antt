@@ -1,8 +1,8 @@
 -- How an index stands for its map, and goes on doing so.
-use Rattle.std.proofs.Common.{◌≡◌, ◌≢◌, ◌+◌, ◌-◌, ◌≤◌, ◌<◌, ◌||◌, Bool, true, false, cond, eqb, List, [], ◌∷◌, ℕ, zero, suc, Option, Some, None, IsTrue, length, get_or, set, refl, sym, ap, ◌∙◌, inl, inr, ◌⊎◌, arith, length-set, get_or-set_same, get_or-set_other}
-use Rattle.std.specs.FinMap.{empty, get, get-empty, insert, remove, len, len-empty}
-use Rattle.std.specs.List.{find, list_any}
-use Rattle.std.specs.Prelude.{slice_index, slice_set, bit_xor}
+use Rattle.std.proofs.Common.{◌≡◌, ◌≢◌, ◌+◌, ◌≤◌, ◌<◌, Bool, true, false, cond, eqb, List, [], ◌∷◌, ℕ, zero, suc, Option, Some, None, length, get_or, refl, sym, ap, ◌∙◌, inl, inr, arith, length-set, get_or-set_same, get_or-set_other}
+use Rattle.std.specs.FinMap.{empty, get, get-empty, insert, len-empty}
+use Rattle.std.specs.List.{find}
+use Rattle.std.specs.Prelude.{slice_index, slice_set}
 use Rattle.std.specs.Cmp.Lexicographic.{slice_cmp}
 use Rattle.std.specs.Ordering.{nat_cmp}
 use Rattle.std.specs.Str.{bytes_eq}
@@ -10,13 +10,13 @@ use Rattle.std.proofs.lemmas.Bool.Decides.{not_from_Decides}
 use Rattle.std.proofs.lemmas.List.{get_or_read}
 use Rattle.std.proofs.lemmas.Slice.Eq.{bytes_eq-Decides}
 use Rattle.std.proofs.Math.Nat.{mod-lt}
-use Rattle.std.proofs.lemmas.Bool.{cases_Bool, cases_eq, eq-eqb, eqb-false, eqb-true, ne_eqb, false≢true, false_from_ne_true, or_cases, or_left, or_right}
-use Rattle.name_index.specs.Chain.{AreCells, IsChain, IsDistinct, holds, ids_from, prior_in, without}
-use Rattle.name_index.specs.Hash.{bucket_at, hash}
+use Rattle.std.proofs.lemmas.Bool.{cases_Bool, cases_eq, eq-eqb, eqb-true, ne_eqb, false≢true, false_from_ne_true, or_cases, or_left, or_right}
+use Rattle.name_index.specs.Chain.{AreCells, IsChain, IsDistinct, holds, ids_from}
+use Rattle.name_index.specs.Hash.{bucket_at}
 use Rattle.name_index.specs.Index.{Index, Stands}
 use Rattle.name_index.specs.Names.{Names}
 use Rattle.name_index.proofs.Chains.{ids_from-zero}
-use Rattle.name_index.proofs.Maps.{cases_name, get-insert_other, get-insert_same, get-remove_other, get-remove_same, len-insert_new, len-remove_some, length-named, not_None, same_Some}
+use Rattle.name_index.proofs.Maps.{cases_name, get-insert_other, get-insert_same, len-insert_new, length-named, not_None, same_Some}
 
 -- a name's bucket is one of them
 pub bucket_at-lt : (buckets : ℕ) (name : List ℕ) → 0 < buckets → bucket_at buckets name < buckets
@@ -144,7 +144,6 @@ module _ (cell cell' : ℕ → Bool) (name name' : ℕ → List ℕ) (chain chai
     (id : ℕ) (same_cell : (k : ℕ) → cell' k ≡ cell k) (same_name : (k : ℕ) → name' k ≡ name k)
     (first : chain' id ≡ slice_index index.heads (bucket_at (length index.heads) (name id))) (others : (k : ℕ) → k ≢ id → chain' k ≡ chain k)
     (is_cell : cell id ≡ true) (new : get names (name id) ≡ None) (some : 0 < length index.heads) where
-
   abbrev at : ℕ
   at = bucket_at (length index.heads) (name id)
 
@@ -164,8 +163,7 @@ module _ (cell cell' : ℕ → Bool) (name name' : ℕ → List ℕ) (chain chai
   linked' : (k : ℕ) → k < length (slice_set index.heads at id) → IsChain cell' chain' (slice_index (slice_set index.heads at id) k) (chains' k)
   linked' k h = elim (cases_eq k at) [
     | inl e ↦
-        rw (at_same k at (id ∷ stands.chains k) (stands.chains k) e)
-        (
+        rw (at_same k at (id ∷ stands.chains k) (stands.chains k) e) (
           ap (slice_index (slice_set index.heads at id)) e ∙ get_or-set_same index.heads at id 0 (bucket_at-lt (length index.heads) (name id) some),
           same_cell id ∙ is_cell,
           rw (first, ← e) (kept_chain k (omega (arith, length-set index.heads at id))),
@@ -186,13 +184,12 @@ module _ (cell cell' : ℕ → Bool) (name name' : ℕ → List ℕ) (chain chai
 
   old_listed : (k j : ℕ) → holds (stands.chains k) j ≡ true → (k < length (slice_set index.heads at id)) × (k ≡ bucket_at (length (slice_set index.heads at id)) (name' j)) × (get (insert names (name id) id) (name' j) ≡ Some j)
   old_listed k j inside =
-      let h = stands.listed k j inside in
-      (
+      let h = stands.listed k j inside in (
         omega (arith, h.0, length-set index.heads at id),
         bucket-name k j h.1,
         ap (get (insert names (name id) id)) (same_name j)
-        ∙ get-insert_other names (name id) id (name j) (λ e. not_None (get names (name id)) j new (ap (get names) (sym e) ∙ h.2))
-        ∙ h.2,
+            ∙ get-insert_other names (name id) id (name j) (λ e. not_None (get names (name id)) j new (ap (get names) (sym e) ∙ h.2))
+            ∙ h.2,
       )
 
   listed' : (k j : ℕ) → holds (chains' k) j ≡ true → (k < length (slice_set index.heads at id)) × (k ≡ bucket_at (length (slice_set index.heads at id)) (name' j)) × (get (insert names (name id) id) (name' j) ≡ Some j)
@@ -201,8 +198,7 @@ module _ (cell cell' : ℕ → Bool) (name name' : ℕ → List ℕ) (chain chai
         let either = or_cases (eqb id j) (holds (stands.chains k) j) (ap (λ l. holds l j) (sym (at_same k at (id ∷ stands.chains k) (stands.chains k) e)) ∙ inside) in
         elim either [
           | inl here ↦
-              let same = eqb-true id j here in
-              (
+              let same = eqb-true id j here in (
                 omega (arith, e, bucket_at-lt (length index.heads) (name id) some, length-set index.heads at id),
                 bucket-name k j (e ∙ ap (λ i. bucket_at (length index.heads) (name i)) same),
                 ap (get (insert names (name id) id)) (same_name j ∙ ap name (sym same)) ∙ get-insert_same names (name id) id ∙ ap Some same,
@@ -224,8 +220,7 @@ module _ (cell cell' : ℕ → Bool) (name name' : ℕ → List ℕ) (chain chai
   found' : (bytes : List ℕ) (j : ℕ) → get (insert names (name id) id) bytes ≡ Some j → (name' j ≡ bytes) × (holds (chains' (bucket_at (length (slice_set index.heads at id)) bytes)) j ≡ true)
   found' bytes j h = elim (cases_name bytes (name id)) [
     | inl e ↦
-        let same = same_Some id j (sym (get-insert_same names (name id) id) ∙ ap (get (insert names (name id) id)) (sym e) ∙ h) in
-        (
+        let same = same_Some id j (sym (get-insert_same names (name id) id) ∙ ap (get (insert names (name id) id)) (sym e) ∙ h) in (
           same_name j ∙ ap name (sym same) ∙ sym e,
           rw (length-set index.heads at id, e, ← same) first_in_bucket,
         )

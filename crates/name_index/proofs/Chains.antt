@@ -1,8 +1,7 @@
 -- A walk along a chain, step by step.
-use Rattle.std.proofs.Common.{◌≡◌, ◌≢◌, ◌+◌, ◌-◌, ◌<◌, ◌≤◌, Bool, true, false, cond, eqb, List, [], ◌∷◌, ◌++◌, ℕ, zero, suc, Option, Some, None, length, refl, sym, ap, ◌∙◌, inl, inr, arith, append_assoc}
-use Rattle.std.specs.List.{find}
-use Rattle.std.proofs.lemmas.Bool.{cases_Bool, eq-eqb, eqb-true, false≢true, or_left, or_right}
-use Rattle.name_index.specs.Chain.{AreCells, IsChain, IsDistinct, holds, ids_from, prior_in}
+use Rattle.std.proofs.Common.{◌≡◌, ◌≢◌, ◌+◌, ◌-◌, ◌<◌, ◌≤◌, Bool, true, eqb, List, [], ◌∷◌, ◌++◌, ℕ, zero, suc, refl, sym, ap, ◌∙◌, arith, append_assoc}
+use Rattle.std.proofs.lemmas.Bool.{eq-eqb, or_left, or_right}
+use Rattle.name_index.specs.Chain.{AreCells, holds, ids_from}
 
 holds_first : (id : ℕ) (ids : List ℕ) → holds (id ∷ ids) id ≡ true
 holds_first id ids = or_left (eqb id id) (holds ids id) (eq-eqb id id refl)

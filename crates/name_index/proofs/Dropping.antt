@@ -1,9 +1,8 @@
 -- A chain, and an index, without an identifier.
-use Rattle.std.proofs.Common.{◌≡◌, ◌≢◌, ◌+◌, ◌-◌, ◌≤◌, ◌<◌, ◌||◌, Bool, true, false, cond, eqb, List, [], ◌∷◌, ℕ, zero, suc, Option, Some, None, IsTrue, length, get_or, set, refl, sym, ap, ◌∙◌, inl, inr, ◌⊎◌, arith, length-set, get_or-set_same, get_or-set_other}
-use Rattle.std.specs.FinMap.{get, remove, len}
-use Rattle.std.specs.List.{list_any}
-use Rattle.std.specs.Prelude.{slice_index, slice_set}
-use Rattle.std.proofs.lemmas.Bool.{cases_Bool, cases_eq, eq-eqb, eqb-false, eqb-true, ne_eqb, false≢true, false_from_ne_true, or_cases, or_left, or_parts, or_right}
+use Rattle.std.proofs.Common.{◌≡◌, ◌≢◌, ◌-◌, ◌<◌, Bool, true, false, cond, eqb, List, [], ◌∷◌, ℕ, Some, length, set, refl, sym, ap, ◌∙◌, inl, inr, arith}
+use Rattle.std.specs.FinMap.{get, remove}
+use Rattle.std.specs.Prelude.{slice_index}
+use Rattle.std.proofs.lemmas.Bool.{cases_Bool, cases_eq, eq-eqb, eqb-true, ne_eqb, false≢true, false_from_ne_true, or_cases, or_left, or_parts, or_right}
 use Rattle.name_index.specs.Chain.{AreCells, IsChain, IsDistinct, holds, ids_from, prior_in, prior_of, without}
 use Rattle.name_index.specs.Hash.{bucket_at}
 use Rattle.name_index.specs.Index.{Index, Stands}
@@ -17,9 +16,9 @@ holds-without id [] k inside = inside
 holds-without id (x ∷ xs) k inside = elim (cases_Bool (eqb x id)) [
   | inl e ↦ or_right (eqb x k) (holds xs k) (rw e at inside)
   | inr e ↦ elim (or_cases (eqb x k) (holds (without id xs) k) (rw e at inside)) [
-      | inl here ↦ or_left (eqb x k) (holds xs k) here
-      | inr there ↦ or_right (eqb x k) (holds xs k) (holds-without id xs k there)
-    ]
+    | inl here ↦ or_left (eqb x k) (holds xs k) here
+    | inr there ↦ or_right (eqb x k) (holds xs k) (holds-without id xs k there)
+  ]
 ]
 
 holds-without_other : (id : ℕ) (ids : List ℕ) (k : ℕ) → k ≢ id → holds ids k ≡ true → holds (without id ids) k ≡ true
@@ -29,9 +28,9 @@ holds-without_other id (x ∷ xs) k ne inside = elim (cases_Bool (eqb x id)) [
       let other : x ≢ k = λ same. ne (sym same ∙ eqb-true x id e) in
       rw e (rw (ne_eqb x k other) at inside)
   | inr e ↦ rw e (elim (or_cases (eqb x k) (holds xs k) inside) [
-      | inl here ↦ or_left (eqb x k) (holds (without id xs) k) here
-      | inr there ↦ or_right (eqb x k) (holds (without id xs) k) (holds-without_other id xs k ne there)
-    ])
+    | inl here ↦ or_left (eqb x k) (holds (without id xs) k) here
+    | inr there ↦ or_right (eqb x k) (holds (without id xs) k) (holds-without_other id xs k ne there)
+  ])
 ]
 
 holds-without_same : (id : ℕ) (ids : List ℕ) → IsDistinct ids → holds (without id ids) id ≡ false
@@ -46,9 +45,9 @@ distinct-without id [] distinct = tt
 distinct-without id (x ∷ xs) distinct = elim (cases_Bool (eqb x id)) [
   | inl e ↦ rw e distinct.1
   | inr e ↦ rw e (
-      false_from_ne_true (holds (without id xs) x) (λ inside. false≢true (sym distinct.0 ∙ holds-without id xs x inside)),
-      distinct-without id xs distinct.1,
-    )
+    false_from_ne_true (holds (without id xs) x) (λ inside. false≢true (sym distinct.0 ∙ holds-without id xs x inside)),
+    distinct-without id xs distinct.1,
+  )
 ]
 
 prior_in-same : (p x : ℕ) (xs : List ℕ) (id : ℕ) → eqb x id ≡ true → prior_in p (x ∷ xs) id ≡ p
@@ -133,7 +132,6 @@ module _ (cell cell' : ℕ → Bool) (name name' : ℕ → List ℕ) (chain chai
     (is_held : get names (name id) ≡ Some id)
     (here : IsChain cell' chain' (slice_index heads' (bucket_at (length index.heads) (name id))) (without id (stands.chains (bucket_at (length index.heads) (name id)))))
     (there : (k : ℕ) → k ≢ bucket_at (length index.heads) (name id) → k < length index.heads → IsChain cell' chain' (slice_index heads' k) (stands.chains k)) where
-
   abbrev at : ℕ
   at = bucket_at (length index.heads) (name id)
 
@@ -156,8 +154,7 @@ module _ (cell cell' : ℕ → Bool) (name name' : ℕ → List ℕ) (chain chai
   left_in : (k j : ℕ) → holds (chains' k) j ≡ true → (holds (stands.chains k) j ≡ true) × (j ≢ id)
   left_in k j inside = elim (cases_eq k at) [
     | inl e ↦
-        let h : holds (without id (stands.chains k)) j ≡ true = ap (λ l. holds l j) (sym (at_same k at (without id (stands.chains k)) (stands.chains k) e)) ∙ inside in
-        (
+        let h : holds (without id (stands.chains k)) j ≡ true = ap (λ l. holds l j) (sym (at_same k at (without id (stands.chains k)) (stands.chains k) e)) ∙ inside in (
           holds-without id (stands.chains k) j h,
           differs (without id (stands.chains k)) j id h (holds-without_same id (stands.chains k) (stands.distinct k)),
         )
@@ -169,13 +166,12 @@ module _ (cell cell' : ℕ → Bool) (name name' : ℕ → List ℕ) (chain chai
   listed' : (k j : ℕ) → holds (chains' k) j ≡ true → (k < length heads') × (k ≡ bucket_at (length heads') (name' j)) × (get (remove names (name id)) (name' j) ≡ Some j)
   listed' k j inside =
       let left = left_in k j inside in
-      let old = stands.listed k j left.0 in
-      (
+      let old = stands.listed k j left.0 in (
         omega (arith, old.0, same_length),
         old.1 ∙ sym (ap (λ n. bucket_at n (name' j)) same_length ∙ ap (bucket_at (length index.heads)) (same_name j)),
         ap (get (remove names (name id))) (same_name j)
-        ∙ get-remove_other names (name id) (name j) (λ e. left.1 (same_Some j id (sym old.2 ∙ ap (get names) e ∙ is_held)))
-        ∙ old.2,
+            ∙ get-remove_other names (name id) (name j) (λ e. left.1 (same_Some j id (sym old.2 ∙ ap (get names) e ∙ is_held)))
+            ∙ old.2,
       )
 
   in_bucket : (k j : ℕ) → j ≢ id → holds (stands.chains k) j ≡ true → holds (chains' k) j ≡ true
@@ -188,8 +184,7 @@ module _ (cell cell' : ℕ → Bool) (name name' : ℕ → List ℕ) (chain chai
   found' bytes j h = elim (cases_name bytes (name id)) [
     | inl e ↦ absurd (not_None (get (remove names (name id)) bytes) j (ap (get (remove names (name id))) e ∙ get-remove_same names (name id)) h)
     | inr ne ↦
-        let old = stands.found bytes j (sym (get-remove_other names (name id) bytes ne) ∙ h) in
-        (
+        let old = stands.found bytes j (sym (get-remove_other names (name id) bytes ne) ∙ h) in (
           same_name j ∙ old.0,
           rw same_length (in_bucket (bucket_at (length index.heads) bytes) j (λ same. ne (sym old.0 ∙ ap name same)) old.1),
         )

@@ -1,14 +1,14 @@
 -- What adding and dropping a name make of the cells and of the index.
-use Rattle.std.proofs.Common.{◌≡◌, ◌≢◌, ◌+◌, ◌-◌, ◌≤◌, ◌<◌, Bool, true, false, cond, eqb, List, [], ◌∷◌, ℕ, suc, Option, Some, None, IsTrue, length, refl, sym, ap, ◌∙◌, inl, inr, arith, length-set, get_or-set_same, get_or-set_other}
-use Rattle.std.specs.FinMap.{get, insert, len, remove}
+use Rattle.std.proofs.Common.{◌≡◌, ◌≢◌, ◌+◌, ◌-◌, ◌≤◌, ◌<◌, Bool, true, false, cond, eqb, List, [], ◌∷◌, ℕ, Some, None, length, refl, sym, ap, ◌∙◌, inl, inr, arith, length-set, get_or-set_same, get_or-set_other}
+use Rattle.std.specs.FinMap.{get, insert, remove}
 use Rattle.std.specs.Prelude.{slice_index, slice_set}
-use Rattle.std.proofs.lemmas.Bool.{cases_Bool, cond-false, cond-true, eqb-false, eqb-true, false≢true}
-use Rattle.name_index.specs.Chain.{AreCells, IsChain, IsDistinct, holds, ids_from, prior_in, prior_of, without}
+use Rattle.std.proofs.lemmas.Bool.{cases_Bool, cond-false, cond-true, eqb-false, eqb-true}
+use Rattle.name_index.specs.Chain.{AreCells, holds, ids_from, prior_in, prior_of}
 use Rattle.name_index.specs.Hash.{bucket_at}
 use Rattle.name_index.specs.Index.{Index, Stands}
 use Rattle.name_index.specs.Names.{HasId, Names}
 use Rattle.name_index.specs.Rechained.{Rechained}
-use Rattle.name_index.proofs.Buckets.{bucket_at-lt, chain_cells, chain_kept, chains-are, differs, stands_added}
+use Rattle.name_index.proofs.Buckets.{bucket_at-lt, chain_cells, chain_kept, chains-are, stands_added}
 use Rattle.name_index.proofs.Dropping.{chain_behind, chain_without, prior_inside, stands_dropped}
 use Rattle.name_index.proofs.Maps.{some_len}
 
@@ -27,7 +27,6 @@ module _ {Cells : Type 0} (with_chain : Cells → ℕ → ℕ → Cells) (cell :
     (set : (cells : Cells) (id next : ℕ) → cell cells id ≡ true → chain_of (with_chain cells id next) id ≡ next)
     (others : (cells : Cells) (id other next : ℕ) → cell cells id ≡ true → other ≢ id → chain_of (with_chain cells id next) other ≡ chain_of cells other)
     (cells : Cells) (index : Index) (names : Names) (stands : Stands (cell cells) (name_of cells) (chain_of cells) index names) (id : ℕ) where
-
   abbrev at : ℕ
   at = bucket_at (length index.heads) (name_of cells id)
 
@@ -35,11 +34,11 @@ module _ {Cells : Type 0} (with_chain : Cells → ℕ → ℕ → Cells) (cell :
   add_stands new heads' is_cell is_new some heads-is cells-is =
       rw (heads-is, cells-is)
       (stands_added (cell cells) (cell (with_chain cells id (slice_index index.heads at))) (name_of cells) (name_of (with_chain cells id (slice_index index.heads at))) (chain_of cells) (chain_of (with_chain cells id (slice_index index.heads at))) index names stands id
-        (λ k. kept cells id k (slice_index index.heads at) is_cell)
-        (λ k. named cells id k (slice_index index.heads at) is_cell)
-        (set cells id (slice_index index.heads at) is_cell)
-        (λ k ne. others cells id k (slice_index index.heads at) is_cell ne)
-        is_cell is_new some)
+      (λ k. kept cells id k (slice_index index.heads at) is_cell)
+      (λ k. named cells id k (slice_index index.heads at) is_cell)
+      (set cells id (slice_index index.heads at) is_cell)
+      (λ k ne. others cells id k (slice_index index.heads at) is_cell ne)
+      is_cell is_new some)
 
   abbrev before : ℕ
   before = prior_of (chain_of cells) index.held (slice_index index.heads at) id
@@ -77,7 +76,7 @@ module _ {Cells : Type 0} (with_chain : Cells → ℕ → ℕ → Cells) (cell :
         stands_dropped (cell cells) (cell cells) (name_of cells) (name_of cells) (chain_of cells) (chain_of cells) index names stands id (λ k. refl)
         (slice_set index.heads at (chain_of cells id)) (length-set index.heads at (chain_of cells id)) is_held
         (rw (get_or-set_same index.heads at (chain_of cells id) 0 at-lt)
-          (chain_behind (cell cells) (chain_of cells) (none cells) id (slice_index index.heads at) (stands.chains at) (stands.linked at at-lt) inside (sym before-is ∙ zero)))
+        (chain_behind (cell cells) (chain_of cells) (none cells) id (slice_index index.heads at) (stands.chains at) (stands.linked at at-lt) inside (sym before-is ∙ zero)))
         (λ k ne h. rw (get_or-set_other index.heads at k (chain_of cells id) 0 ne) (stands.linked k h))
 
     later_dropped : before ≢ 0 → Stands (cell (with_chain cells before (chain_of cells id))) (name_of (with_chain cells before (chain_of cells id))) (chain_of (with_chain cells before (chain_of cells id))) (record { heads = index.heads; held = index.held - 1 }) (remove names (name_of cells id))
@@ -89,12 +88,12 @@ module _ {Cells : Type 0} (with_chain : Cells → ℕ → ℕ → Cells) (cell :
         (λ k. named cells before k (chain_of cells id) is_cell)
         index.heads refl is_held
         (chain_without (cell cells) (cell new) (chain_of cells) (chain_of new) (λ k. kept cells before k (chain_of cells id) is_cell) id (slice_index index.heads at) (stands.chains at) (stands.linked at at-lt) (stands.distinct at) inside
-          (λ z. ne (before-is ∙ z)) next_set
-          (λ k apart. others cells before k (chain_of cells id) is_cell (λ e. apart (e ∙ before-is))))
+        (λ z. ne (before-is ∙ z)) next_set
+        (λ k apart. others cells before k (chain_of cells id) is_cell (λ e. apart (e ∙ before-is))))
         (λ k apart h. chain_kept (cell cells) (cell new) (chain_of cells) (chain_of new) (λ j. kept cells before j (chain_of cells id) is_cell) (slice_index index.heads k) (stands.chains k)
-          (λ j there. others cells before j (chain_of cells id) is_cell
-            (λ e. apart ((stands.listed k j there).1 ∙ ap (λ i. bucket_at (length index.heads) (name_of cells i)) e ∙ sym (stands.listed at before (before_inside ne)).1)))
-          (stands.linked k h))
+        (λ j there. others cells before j (chain_of cells id) is_cell
+        (λ e. apart ((stands.listed k j there).1 ∙ ap (λ i. bucket_at (length index.heads) (name_of cells i)) e ∙ sym (stands.listed at before (before_inside ne)).1)))
+        (stands.linked k h))
 
     pub drop_stands : (new : Cells) (heads' : List ℕ) → heads' ≡ dropped_heads → new ≡ dropped_cells → Stands (cell new) (name_of new) (chain_of new) (record { heads = heads'; held = index.held - 1 }) (remove names (name_of cells id))
     drop_stands new heads' heads-is cells-is = elim (cases_Bool (eqb before 0)) [
@@ -118,10 +117,10 @@ module _ {Cells : Type 0} (with_chain : Cells → ℕ → ℕ → Cells) (cell :
     drop_cells new cells-is = elim (cases_Bool (eqb before 0)) [
       | inl e ↦ record { sets = []; each = tt; is = cells-is ∙ first_cells e }
       | inr e ↦ record {
-          sets = (before, chain_of cells id) ∷ [];
-          each = ((name_of cells before, (stands.listed at before (before_inside (eqb-false before 0 e))).2), tt);
-          is = cells-is ∙ later_cells e;
-        }
+        sets = (before, chain_of cells id) ∷ [];
+        each = ((name_of cells before, (stands.listed at before (before_inside (eqb-false before 0 e))).2), tt);
+        is = cells-is ∙ later_cells e;
+      }
     ]
 
     pub reached : AreCells (cell cells) (ids_from (chain_of cells) index.held (slice_index index.heads at))

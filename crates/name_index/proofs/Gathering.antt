@@ -1,18 +1,18 @@
 -- The identifiers in all chains are those of the map.
-use Rattle.std.proofs.Common.{◌≡◌, ◌≢◌, ◌+◌, ◌-◌, ◌≤◌, ◌<◌, ◌||◌, Bool, true, false, eqb, List, [], ◌∷◌, ◌++◌, ℕ, zero, suc, Option, Some, None, IsTrue, length, get_or, refl, sym, ap, ◌∙◌, inl, inr, ◌⊎◌, arith}
+use Rattle.std.proofs.Common.{◌≡◌, ◌≢◌, ◌+◌, ◌≤◌, ◌<◌, ◌||◌, Bool, true, false, eqb, List, [], ◌∷◌, ◌++◌, ℕ, zero, suc, Option, Some, None, length, refl, sym, ap, ◌∙◌, inl, inr, arith}
 use Rattle.std.specs.FinMap.{get, get-empty, insert}
-use Rattle.std.specs.List.{flat_map, list_any}
+use Rattle.std.specs.List.{flat_map}
 use Rattle.std.specs.Cmp.Lexicographic.{slice_cmp}
 use Rattle.std.specs.Ordering.{nat_cmp}
 use Rattle.std.specs.Prelude.{slice_index}
 use Rattle.std.proofs.lemmas.Bool.{eq-eqb, eqb-true, false≢true, false_from_ne_true, or_cases, or_left, or_right}
-use Rattle.name_index.specs.Chain.{AreCells, IsChain, IsDistinct, holds, ids_from}
+use Rattle.name_index.specs.Chain.{IsDistinct, holds, ids_from}
 use Rattle.name_index.specs.Gathered.{AreIds}
 use Rattle.name_index.specs.Hash.{bucket_at}
 use Rattle.name_index.specs.Index.{Index, Stands, names_in, names_of}
 use Rattle.name_index.specs.Names.{Names}
 use Rattle.name_index.proofs.Buckets.{bucket_at-lt, chain_cells, chains-are}
-use Rattle.name_index.proofs.Maps.{cases_name, get-insert_other, get-insert_same, not_None, same_Some, same_names, some_len}
+use Rattle.name_index.proofs.Maps.{cases_name, get-insert_other, get-insert_same, not_None, same_Some, same_names}
 use Rattle.name_index.proofs.Refilling.{holds-append}
 
 -- two lists without repeats and without a common identifier make one
@@ -64,9 +64,9 @@ module _ (cell : ℕ → Bool) (name : ℕ → List ℕ) (chain : ℕ → ℕ) (
       (rw (this_bucket k first heads h) (stands.distinct k))
       (gathered_distinct (suc k) heads (next_bucket k first heads h))
       (λ id here. false_from_ne_true (holds (gathered heads) id) (λ there.
-        let at = (stands.listed k id (ap (λ l. holds l id) (sym (this_bucket k first heads h)) ∙ here)).1 in
-        let later = (gathered_at (suc k) heads (next_bucket k first heads h) id there).0 in
-        absurd (omega (arith, at, later))))
+      let at = (stands.listed k id (ap (λ l. holds l id) (sym (this_bucket k first heads h)) ∙ here)).1 in
+      let later = (gathered_at (suc k) heads (next_bucket k first heads h) id there).0 in
+      absurd (omega (arith, at, later))))
 
   gathered_in : (k : ℕ) (heads : List ℕ) → FromBucket k heads → (j id : ℕ) → j < length heads → holds (stands.chains (k + j)) id ≡ true → holds (gathered heads) id ≡ true
   gathered_in k [] h j id within inside = absurd (omega (arith, within))
@@ -77,7 +77,7 @@ module _ (cell : ℕ → Bool) (name : ℕ → List ℕ) (chain : ℕ → ℕ) (
       let at : suc k + j ≡ k + suc j = omega arith in
       holds-append (ids_from chain index.held first) (gathered heads) id
       ∙ or_right (holds (ids_from chain index.held first) id) (holds (gathered heads) id)
-        (gathered_in (suc k) heads (next_bucket k first heads h) j id (omega (arith, within)) (ap (λ n. holds (stands.chains n) id) at ∙ inside))
+      (gathered_in (suc k) heads (next_bucket k first heads h) j id (omega (arith, within)) (ap (λ n. holds (stands.chains n) id) at ∙ inside))
 
   named_cell : (id : ℕ) → get names (name id) ≡ Some id → 0 < length index.heads → cell id ≡ true
   named_cell id h some =

@@ -5,3 +5,5 @@ pub mod Dropping
 pub mod Effects
 pub mod Gathering
 pub mod Refilling
+pub mod Keeping
+pub mod Vectors

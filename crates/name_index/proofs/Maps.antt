@@ -1,11 +1,10 @@
 -- Maps from names, at a name and at others.
-use Rattle.std.proofs.Common.{◌≡◌, ◌≢◌, ◌+◌, ◌-◌, ◌≤◌, ◌<◌, Bool, true, false, cond, eqb, List, [], ◌∷◌, ℕ, zero, suc, Option, Some, None, length, refl, sym, ap, ◌∙◌, inl, inr, ◌⊎◌, arith}
-use Rattle.std.specs.FinMap.{empty, get, insert, remove, len, get-insert, get-remove, len-insert, len-remove, same_map, empty_of_len, get-empty, slice_cmp-IsAntisymmetric, nat_cmp-IsAntisymmetric}
+use Rattle.std.proofs.Common.{◌≡◌, ◌≢◌, ◌+◌, ◌-◌, ◌≤◌, true, false, cond, eqb, List, [], ◌∷◌, ℕ, zero, suc, Option, Some, None, length, refl, sym, ap, ◌∙◌, inl, inr, ◌⊎◌, arith}
+use Rattle.std.specs.FinMap.{get, insert, remove, len, get-insert, get-remove, len-insert, len-remove, same_map, empty_of_len, get-empty, slice_cmp-IsAntisymmetric, nat_cmp-IsAntisymmetric}
 use Rattle.std.specs.Cmp.{tied_itself}
 use Rattle.std.specs.Cmp.Lexicographic.{slice_cmp}
 use Rattle.std.specs.Option.{is_some, unwrap_or}
 use Rattle.std.specs.Ordering.{eq_by_cmp, is_eq, nat_cmp}
-use Rattle.std.specs.Str.{bytes_eq}
 use Rattle.std.specs.declared.cmp.Ordering.{Ordering}
 use Rattle.std.specs.declared.cmp.Ordering.TheVariants.{Less, Equal, Greater}
 use Rattle.std.proofs.lemmas.Bool.{cases_Bool, eq-eqb, false≢true, or_left, or_right}
@@ -85,8 +84,8 @@ length-named name [] m distinct each = omega arith
 length-named name (x ∷ xs) m distinct each =
     let here = each x (or_left (eqb x x) (holds xs x) (eq-eqb x x refl)) in
     let rest = λ (id : ℕ) (inside : holds xs id ≡ true).
-      let there = each id (or_right (eqb x id) (holds xs id) inside) in
-      get-remove_other m (name x) (name id) (λ e. differs id inside (same_Some id x (sym there ∙ ap (get m) e ∙ here))) ∙ there
+    let there = each id (or_right (eqb x id) (holds xs id) inside) in
+    get-remove_other m (name x) (name id) (λ e. differs id inside (same_Some id x (sym there ∙ ap (get m) e ∙ here))) ∙ there
     in
     let shorter = length-named name xs (remove m (name x)) distinct.1 rest in
     omega (arith, shorter, len-remove_some m (name x) x here)

@@ -1,21 +1,21 @@
 -- Empty chains that are filled with the identifiers of a map, one after another.
-use Rattle.std.proofs.Common.{◌≡◌, ◌≢◌, ◌+◌, ◌≤◌, ◌<◌, ◌||◌, Bool, true, false, cond, eqb, List, [], ◌∷◌, ◌++◌, ℕ, zero, suc, Option, Some, None, IsTrue, length, get_or, take, refl, sym, ap, subst, ◌∙◌, inl, inr, ◌⊎◌, arith, length-set}
+use Rattle.std.proofs.Common.{◌≡◌, ◌≢◌, ◌+◌, ◌<◌, ◌||◌, Bool, true, false, eqb, List, [], ◌∷◌, ◌++◌, ℕ, zero, suc, Option, Some, None, length, get_or, take, refl, sym, ap, subst, ◌∙◌, inl, inr, arith}
 use Rattle.std.specs.FinMap.{empty, get, get-empty, insert, len, len-empty}
-use Rattle.std.specs.List.{AllByRecursion, list_any}
+use Rattle.std.specs.List.{AllByRecursion}
 use Rattle.std.specs.Ordering.{nat_cmp}
 use Rattle.std.specs.Cmp.Lexicographic.{slice_cmp}
 use Rattle.std.specs.Prelude.{slice_index, slice_set}
-use Rattle.std.proofs.lemmas.Bool.{cases_Bool, eq-eqb, eqb-true, false≢true, false_from_ne_true, or_cases, or_left, or_parts, or_right}
+use Rattle.std.proofs.lemmas.Bool.{cases_Bool, eq-eqb, eqb-true, false≢true, false_from_ne_true, or_cases, or_left, or_right}
 use Rattle.std.proofs.lemmas.List.{take_more}
 use Rattle.name_index.specs.Chain.{IsDistinct, holds}
 use Rattle.name_index.specs.Gathered.{AreIds}
 use Rattle.name_index.specs.Hash.{bucket_at}
-use Rattle.name_index.specs.Index.{Index, Stands}
+use Rattle.name_index.specs.Index.{Stands}
 use Rattle.name_index.specs.Names.{HasId, Names}
 use Rattle.name_index.specs.Rechained.{Rechained, with_chains}
 use Rattle.name_index.proofs.Buckets.{stands_none}
 use Rattle.name_index.proofs.Effects.{add_stands}
-use Rattle.name_index.proofs.Maps.{cases_name, get-insert_other, get-insert_same, not_None, same_Some, same_names}
+use Rattle.name_index.proofs.Maps.{cases_name, get-insert_other, get-insert_same, not_None, same_Some}
 
 pub holds-append : (xs ys : List ℕ) (id : ℕ) → holds (xs ++ ys) id ≡ (holds xs id || holds ys id)
 holds-append [] ys id = refl
@@ -42,10 +42,10 @@ pub holds-before : (ids : List ℕ) (i : ℕ) → IsDistinct ids → i < length 
 holds-before [] i distinct h = absurd (omega (arith, h))
 holds-before (x ∷ xs) zero distinct h = refl
 holds-before (x ∷ xs) (suc i) distinct h = false_from_ne_true (holds (take (suc i) (x ∷ xs)) (get_or xs i 0)) (λ inside.
-  elim (or_cases (eqb x (get_or xs i 0)) (holds (take i xs) (get_or xs i 0)) inside) [
-    | inl here ↦ false≢true (sym distinct.0 ∙ ap (holds xs) (eqb-true x (get_or xs i 0) here) ∙ holds-at xs i (omega (arith, h)))
-    | inr there ↦ false≢true (sym (holds-before xs i distinct.1 (omega (arith, h))) ∙ there)
-  ])
+    elim (or_cases (eqb x (get_or xs i 0)) (holds (take i xs) (get_or xs i 0)) inside) [
+      | inl here ↦ false≢true (sym distinct.0 ∙ ap (holds xs) (eqb-true x (get_or xs i 0) here) ∙ holds-at xs i (omega (arith, h)))
+      | inr there ↦ false≢true (sym (holds-before xs i distinct.1 (omega (arith, h))) ∙ there)
+    ])
 
 -- the chains stand for the part of the map that is done
 pub record Refilled (cell : ℕ → Bool) (name : ℕ → List ℕ) (chain : ℕ → ℕ) (heads : List ℕ) (done : List ℕ) : Type 0 where
@@ -92,7 +92,6 @@ module _ {Cells : Type 0} (with_chain : Cells → ℕ → ℕ → Cells) (cell :
     (first cells : Cells) (ids : List ℕ) (names : Names) (are : AreIds (cell first) (name_of first) ids names)
     (same_cell : (k : ℕ) → cell cells k ≡ cell first k) (same_name : (k : ℕ) → name_of cells k ≡ name_of first k)
     (heads : List ℕ) (i : ℕ) (within : i < length ids) (refilled : Refilled (cell cells) (name_of cells) (chain_of cells) heads (take i ids)) where
-
   abbrev id : ℕ
   id = get_or ids i 0
 

@@ -1,5 +1,5 @@
 -- The hash of a name, and the bucket to which it belongs.
-use Rattle.std.specs.Prelude.{◌+◌, ◌*◌, ◌/◌, ◌%◌, ◌^◌, List, ℕ, bit_xor}
+use Rattle.std.specs.Prelude.{◌*◌, ◌/◌, ◌%◌, ◌^◌, List, ℕ, bit_xor}
 use Rattle.std.specs.List.{fold}
 use Rattle.name_index.specs.declared.hash.TheConstants.{OFFSET_BASIS, PRIME}
 

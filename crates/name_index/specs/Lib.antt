@@ -4,3 +4,4 @@ pub mod Hash
 pub mod Index
 pub mod Names
 pub mod Rechained
+pub mod VecCells

@@ -11,8 +11,10 @@ pub const PRIME: u64 = 0x100_0000_01b3;
 fn hash(name: &[u8]) -> u64
     ensures { result ≡ hash_by name.now }
 {
-    name.iter()
-        .fold(OFFSET_BASIS, |hash, byte| (hash ^ u64::from(*byte)).wrapping_mul(PRIME))
+    name.iter().fold(
+        OFFSET_BASIS,
+        |hash, byte| (hash ^ u64::from(*byte)).wrapping_mul(PRIME),
+    )
 }
 
 /// Which of so many buckets a name belongs to.

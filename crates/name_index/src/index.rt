@@ -112,7 +112,12 @@ impl NameIndex {
     }
 
     /// Drops the name of an object. This is two steps at most.
-    pub fn drop_name<C: ChainCells, L: Ledger>(&mut self, cells: &mut C, id: u32, moves: &mut Steps<L>)
+    pub fn drop_name<C: ChainCells, L: Ledger>(
+        &mut self,
+        cells: &mut C,
+        id: u32,
+        moves: &mut Steps<L>,
+    )
         ghost names: { Names }
         requires stands { Stands (C.cell cells.old) (C.name_of cells.old) (C.chain_of cells.old) self.old names }
         requires cell { IsTrue (C.cell cells.old id) }

@@ -18,10 +18,12 @@ pub mod cells;
 pub mod chain;
 pub mod hash;
 pub mod index;
+pub mod laws;
 pub mod rehash;
 
 pub use cells::ChainCells;
 pub use index::NameIndex;
+pub use laws::read_off;
 
 #[cfg(test)]
 mod tests;

@@ -19,12 +19,7 @@ pub fn empty_heads(alloc: Global, buckets: usize) -> Result<Vec<u32>, AllocError
 }
 
 /// Puts all objects of a map into chains that were empty. The steps are counted on a counter of its own.
-pub fn refill<C: ChainCells, L: Ledger>(
-    cells: &mut C,
-    heads: &mut [u32],
-    ids: &[u32],
-    blank: Blank,
-)
+pub fn refill<C: ChainCells, L: Ledger>(cells: &mut C, heads: &mut [u32], ids: &[u32], blank: Blank)
     ghost names: { Names }
     requires blank_name { blank.name ≡ L.name }
     requires blank_parts { blank.parts ≡ L.parts }

@@ -1,4 +1,4 @@
-use Rattle.std.proofs.Common.{◌≡◌, ◌+◌, ◌-◌, ◌++◌, ◌∷◌, ◌∙◌, ap, sym, append-nil}
+use Rattle.std.proofs.Common.{◌+◌, ◌-◌, ◌++◌, ◌∷◌, ◌∙◌, ap, sym, append-nil}
 use Rattle.name_index.specs.Chain.{ids_from}
 use Rattle.name_index.proofs.Chains.{cells_here, cells_on, ids_from-more, ids_from-zero, listed_more}
 use Rattle.name_index.proofs.chain.list_chain.Goals as goal

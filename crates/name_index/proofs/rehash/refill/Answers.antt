@@ -1,4 +1,4 @@
-use Rattle.std.proofs.Common.{◌≡◌, ◌<◌, ◌∙◌, ap, length, length-set, refl, arith}
+use Rattle.std.proofs.Common.{◌<◌, ◌∙◌, ap, length, length-set, refl, arith}
 use Rattle.name_index.specs.Names.{HasId}
 use Rattle.name_index.proofs.Refilling.{next_has_id, next_kept, next_named, rechained_more, rechained_none, refilled_more, refilled_none}
 use Rattle.name_index.proofs.rehash.refill.Goals as goal

@@ -1,4 +1,4 @@
-use Rattle.std.proofs.Common.{◌≡◌, ◌∙◌, ◌<◌, ap, length, length-set, sym, arith}
+use Rattle.std.proofs.Common.{◌∙◌, ◌<◌, ap, length, length-set, sym, arith}
 use Rattle.std.proofs.lemmas.List.{with_items_is}
 use Rattle.name_index.proofs.Effects.{add_cells, add_stands}
 use Rattle.name_index.proofs.index.NameIndex.add.Goals as goal

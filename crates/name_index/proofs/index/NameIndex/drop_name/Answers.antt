@@ -1,4 +1,4 @@
-use Rattle.std.proofs.Common.{◌≡◌, ◌∙◌, ◌<◌, ap, length, length-set, sym, arith}
+use Rattle.std.proofs.Common.{◌∙◌, ◌<◌, ap, length, sym, arith}
 use Rattle.std.proofs.lemmas.List.{with_items_is}
 use Rattle.name_index.proofs.Effects.{drop_cells, drop_kept, drop_named, drop_stands, held_some, length-dropped, reached, spare_dropped}
 use Rattle.name_index.proofs.index.NameIndex.drop_name.Goals as goal

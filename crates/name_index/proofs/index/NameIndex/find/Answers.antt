@@ -1,5 +1,5 @@
 use Rattle.std.proofs.Common.{◌≡◌, ◌<◌, ◌∙◌, length, sym, arith}
-use Rattle.std.proofs.lemmas.Bool.{eqb-true, eqb-false}
+use Rattle.std.proofs.lemmas.Bool.{eqb-true}
 use Rattle.name_index.proofs.Buckets.{find-head, get-no_buckets, head-is, head_cells}
 use Rattle.name_index.proofs.index.NameIndex.find.Goals as goal
 

@@ -1,0 +1,8 @@
+use Rattle.name_index.specs.VecCells.{held_names}
+use Rattle.name_index.proofs.tests.Table.hold.Given as goal
+
+abbrev pub ghost-find : goal.ghost-find
+ghost-find g a = held_names a.cells.now a.self.now
+
+abbrev pub ghost-add : goal.ghost-add
+ghost-add g a = held_names a.cells.now a.self.now
