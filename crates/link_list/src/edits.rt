@@ -21,7 +21,8 @@ pub fn push_front<C: LinkCells, L: Ledger>(
     requires new { holds ids id ≡ false }
     ensures list { Stands (C.cell cells.new) (C.link_of cells.new) head.new (id ∷ ids) }
     ensures kept { (other : ℕ) → C.cell cells.new other ≡ C.cell cells.old other }
-    ensures others { OthersStand (C.cell cells.old) (C.link_of cells.old) (C.cell cells.new) (C.link_of cells.new) (id ∷ ids) }
+    ensures others { OthersStand (C.cell cells.old) (C.link_of cells.old)
+        (C.cell cells.new) (C.link_of cells.new) (id ∷ ids) }
     ensures cells { cells.new ≡ linked_in C.with_link C.link_of (id ∷ ids) id cells.old }
     ensures least { moves.old ≤ moves.new }
     ensures most { moves.new ≤ moves.old + 2 }
@@ -52,7 +53,8 @@ pub fn unlink<C: LinkCells, L: Ledger>(
     ensures list { Stands (C.cell cells.new) (C.link_of cells.new) head.new (without id ids) }
     ensures next { result ≡ after ids id }
     ensures kept { (other : ℕ) → C.cell cells.new other ≡ C.cell cells.old other }
-    ensures others { OthersStand (C.cell cells.old) (C.link_of cells.old) (C.cell cells.new) (C.link_of cells.new) ids }
+    ensures others { OthersStand (C.cell cells.old) (C.link_of cells.old)
+        (C.cell cells.new) (C.link_of cells.new) ids }
     ensures cells { cells.new ≡ linked_out C.with_link C.link_of ids id cells.old }
     ensures least { moves.old ≤ moves.new }
     ensures most { moves.new ≤ moves.old + 2 }
@@ -79,7 +81,8 @@ pub fn insert_before<C: LinkCells, L: Ledger>(
     requires next { IfSome next (λ member. IsTrue (holds ids member)) }
     ensures list { Stands (C.cell cells.new) (C.link_of cells.new) head.new (placed id next ids) }
     ensures kept { (other : ℕ) → C.cell cells.new other ≡ C.cell cells.old other }
-    ensures others { OthersStand (C.cell cells.old) (C.link_of cells.old) (C.cell cells.new) (C.link_of cells.new) (placed id next ids) }
+    ensures others { OthersStand (C.cell cells.old) (C.link_of cells.old)
+        (C.cell cells.new) (C.link_of cells.new) (placed id next ids) }
     ensures cells { cells.new ≡ linked_in C.with_link C.link_of (placed id next ids) id cells.old }
     ensures least { moves.old ≤ moves.new }
     ensures most { moves.new ≤ moves.old + 3 }

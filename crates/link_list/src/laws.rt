@@ -11,7 +11,8 @@ use crate::cells::LinkCells;
 /// A member that left a list and is put before the member that stood after it, or last where there was none,
 /// is back in its place.
 pub fn put_back()
-    ensures { (ids : List ℕ) (id : ℕ) → IsDistinct ids → holds ids id ≡ true → placed id (after ids id) (without id ids) ≡ ids }
+    ensures { (ids : List ℕ) (id : ℕ) → IsDistinct ids → holds ids id ≡ true
+        → placed id (after ids id) (without id ids) ≡ ids }
 {}
 
 /// The list that a head stands for is read off the links, so it stands for one list. No more members need to

@@ -1,8 +1,9 @@
-ghost use Rattle.std.specs.Prelude.{◌≡◌, ◌==◌, ◌+◌, ◌<◌, ◌≤◌, ◌++◌, if◌then◌else◌, List, ℕ, IsTrue, OnOk, IfOk, length, slice_index, slice_set};
+ghost use Rattle.std.specs.Prelude.{◌≡◌, ◌==◌, ◌+◌, ◌<◌, ◌≤◌, ◌++◌, if◌then◌else◌, ℕ};
+ghost use Rattle.std.specs.Prelude.{IsTrue, OnOk, IfOk, length, slice_index, slice_set};
 ghost use Rattle.std.specs.List.{find, flat_map};
 ghost use Rattle.std.specs.Str.{bytes_eq};
 ghost use Rattle.name_index.specs.Chain.{AreCells, ids_from, prior_of};
-ghost use Rattle.name_index.specs.Hash.{bucket_at};
+ghost use Rattle.name_index.specs.Hash.{bucket_of, first_of};
 
 use crate::cells::ChainCells;
 use crate::hash::bucket;
@@ -13,7 +14,8 @@ use std::sync::ledger::Ledger;
 /// The first object of a name in a chain of at most so many.
 pub fn find_from<C: ChainCells>(cells: &C, first: u32, most: usize, name: &[u8]) -> Option<u32>
     requires { AreCells (C.cell cells.now) (ids_from (C.chain_of cells.now) most first) }
-    ensures { result ≡ find (λ id. bytes_eq (C.name_of cells.now id) name.now) (ids_from (C.chain_of cells.now) most first) }
+    ensures { result
+        ≡ find (λ id. bytes_eq (C.name_of cells.now id) name.now) (ids_from (C.chain_of cells.now) most first) }
 {
     let mut id = first;
     for _ in 0..most {
@@ -93,8 +95,8 @@ pub fn put<C: ChainCells, L: Ledger>(
 )
     requires cell { IsTrue (C.cell cells.old id) }
     requires some { 0 < length heads.old }
-    ensures heads { heads.new ≡ slice_set heads.old (bucket_at (length heads.old) (C.name_of cells.old id)) id }
-    ensures cells { cells.new ≡ C.with_chain cells.old id (slice_index heads.old (bucket_at (length heads.old) (C.name_of cells.old id))) }
+    ensures heads { heads.new ≡ slice_set heads.old (bucket_of heads.old (C.name_of cells.old id)) id }
+    ensures cells { cells.new ≡ C.with_chain cells.old id (first_of heads.old (C.name_of cells.old id)) }
     ensures least { moves.old ≤ moves.new }
     ensures most { moves.new ≤ moves.old + 1 }
 {
@@ -114,13 +116,16 @@ pub fn take_out<C: ChainCells, L: Ledger>(
 )
     requires cell { IsTrue (C.cell cells.old id) }
     requires some { 0 < length heads.old }
-    requires reached { AreCells (C.cell cells.old) (ids_from (C.chain_of cells.old) most (slice_index heads.old (bucket_at (length heads.old) (C.name_of cells.old id)))) }
-    ensures heads { let bucket = bucket_at (length heads.old) (C.name_of cells.old id) in
-        let before = prior_of (C.chain_of cells.old) most (slice_index heads.old bucket) id in
-        heads.new ≡ (if before == 0 then slice_set heads.old bucket (C.chain_of cells.old id) else heads.old) }
-    ensures cells { let bucket = bucket_at (length heads.old) (C.name_of cells.old id) in
-        let before = prior_of (C.chain_of cells.old) most (slice_index heads.old bucket) id in
-        cells.new ≡ (if before == 0 then cells.old else C.with_chain cells.old before (C.chain_of cells.old id)) }
+    requires reached { let first = first_of heads.old (C.name_of cells.old id) in
+        AreCells (C.cell cells.old) (ids_from (C.chain_of cells.old) most first) }
+    ensures heads { let name = C.name_of cells.old id in
+        let before = prior_of (C.chain_of cells.old) most (first_of heads.old name) id in
+        let first_out = slice_set heads.old (bucket_of heads.old name) (C.chain_of cells.old id) in
+        heads.new ≡ (if before == 0 then first_out else heads.old) }
+    ensures cells { let name = C.name_of cells.old id in
+        let before = prior_of (C.chain_of cells.old) most (first_of heads.old name) id in
+        let later_out = C.with_chain cells.old before (C.chain_of cells.old id) in
+        cells.new ≡ (if before == 0 then cells.old else later_out) }
     ensures least { moves.old ≤ moves.new }
     ensures most { moves.new ≤ moves.old + 1 }
 {

@@ -36,7 +36,8 @@ impl Model for NameIndex {
 impl NameIndex {
     /// An index of no names, with no room.
     pub fn new(alloc: Global) -> NameIndex
-        ensures stands { (cell : ℕ → Bool) (name : ℕ → List ℕ) (chain : ℕ → ℕ) → Stands cell name chain result map.empty }
+        ensures stands { (cell : ℕ → Bool) (name : ℕ → List ℕ) (chain : ℕ → ℕ)
+            → Stands cell name chain result map.empty }
         ensures spare { spare result ≡ 0 }
     {
         NameIndex {
@@ -94,12 +95,13 @@ impl NameIndex {
     /// Adds the name of an object, which no other has. This is one step at most.
     pub fn add<C: ChainCells, L: Ledger>(&mut self, cells: &mut C, id: u32, moves: &mut Steps<L>)
         ghost names: { Names }
-        requires stands { Stands (C.cell cells.old) (C.name_of cells.old) (C.chain_of cells.old) self.old names }
+        requires stands { Stands (C.cell cells.old) (C.name_of cells.old) (C.chain_of cells.old)
+            self.old names }
         requires cell { IsTrue (C.cell cells.old id) }
         requires new { map.get names (C.name_of cells.old id) ≡ None }
         requires room { 1 ≤ spare self.old }
-        ensures stands { Stands (C.cell cells.new) (C.name_of cells.new) (C.chain_of cells.new) self.new
-            (map.insert names (C.name_of cells.old id) id) }
+        ensures stands { Stands (C.cell cells.new) (C.name_of cells.new) (C.chain_of cells.new)
+            self.new (map.insert names (C.name_of cells.old id) id) }
         ensures spare { spare self.old ≤ spare self.new + 1 }
         ensures kept { (other : ℕ) → C.cell cells.new other ≡ C.cell cells.old other }
         ensures named { (other : ℕ) → C.name_of cells.new other ≡ C.name_of cells.old other }
@@ -119,11 +121,12 @@ impl NameIndex {
         moves: &mut Steps<L>,
     )
         ghost names: { Names }
-        requires stands { Stands (C.cell cells.old) (C.name_of cells.old) (C.chain_of cells.old) self.old names }
+        requires stands { Stands (C.cell cells.old) (C.name_of cells.old) (C.chain_of cells.old)
+            self.old names }
         requires cell { IsTrue (C.cell cells.old id) }
         requires held { map.get names (C.name_of cells.old id) ≡ Some id }
-        ensures stands { Stands (C.cell cells.new) (C.name_of cells.new) (C.chain_of cells.new) self.new
-            (map.remove names (C.name_of cells.old id)) }
+        ensures stands { Stands (C.cell cells.new) (C.name_of cells.new) (C.chain_of cells.new)
+            self.new (map.remove names (C.name_of cells.old id)) }
         ensures spare { spare self.old + 1 ≤ spare self.new }
         ensures kept { (other : ℕ) → C.cell cells.new other ≡ C.cell cells.old other }
         ensures named { (other : ℕ) → C.name_of cells.new other ≡ C.name_of cells.old other }

@@ -15,11 +15,11 @@
 #![tactic(auto)]
 
 pub mod cells;
-pub mod chain;
-pub mod hash;
+mod chain;
+mod hash;
 pub mod index;
 pub mod laws;
-pub mod rehash;
+mod rehash;
 
 pub use cells::ChainCells;
 pub use index::NameIndex;

@@ -24,7 +24,8 @@ impl Model for Cells {
 }
 
 impl ChainCells for Cells {
-    ghost use Rattle.name_index.specs.VecCells.{cell-with_chain, chain_of-others, chain_of-set, name_of-with_chain};
+    ghost use Rattle.name_index.specs.VecCells.{cell-with_chain, chain_of-others};
+    ghost use Rattle.name_index.specs.VecCells.{chain_of-set, name_of-with_chain};
 
     ghost cell = { cell_in };
 
