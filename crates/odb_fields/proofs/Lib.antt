@@ -1,1 +1,3 @@
-pub mod Fields
+pub mod Inputs
+pub mod Numbers
+pub mod Texts

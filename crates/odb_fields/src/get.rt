@@ -51,7 +51,7 @@ impl<'a> Get<'a> {
     }
 
     /// Reads a number of one byte.
-    #[tactic(auto, using(crate::proofs::Fields::u8_taken), unfolding(crate::specs::Reading::u8_at))]
+    #[tactic(auto, unfolding(crate::specs::Reading::u8_at))]
     pub fn get_u8(&mut self) -> Result<u8, Cut>
         ensures value { IfOk result (λ n. u8_at self.old ≡ Ok (n, self.new)) }
         ensures bytes { IfOk result (λ n. Takes self.old (u8_bytes n) self.new) }
@@ -60,13 +60,12 @@ impl<'a> Get<'a> {
         ensures end { IfErr result (λ cut. cut ≡ cut_of self.old) }
         ensures stays { OnErr result (self.new ≡ self.old) }
     {
-        let field = self.next(1)?;
-        self.place += 1;
+        let field = self.take(1)?;
         Ok(field[0])
     }
 
     /// Reads a number of four bytes.
-    #[tactic(auto, using(crate::proofs::Fields::u32_taken), unfolding(crate::specs::Reading::u32_at))]
+    #[tactic(auto, unfolding(crate::specs::Reading::u32_at))]
     pub fn get_u32(&mut self) -> Result<u32, Cut>
         ensures value { IfOk result (λ n. u32_at self.old ≡ Ok (n, self.new)) }
         ensures bytes { IfOk result (λ n. Takes self.old (u32_bytes n) self.new) }
@@ -75,13 +74,12 @@ impl<'a> Get<'a> {
         ensures end { IfErr result (λ cut. cut ≡ cut_of self.old) }
         ensures stays { OnErr result (self.new ≡ self.old) }
     {
-        let field = self.next(4)?;
-        self.place += 4;
+        let field = self.take(4)?;
         Ok(LittleEndian::read_u32(field))
     }
 
     /// Reads a number of eight bytes.
-    #[tactic(auto, using(crate::proofs::Fields::u64_taken), unfolding(crate::specs::Reading::u64_at))]
+    #[tactic(auto, unfolding(crate::specs::Reading::u64_at))]
     pub fn get_u64(&mut self) -> Result<u64, Cut>
         ensures value { IfOk result (λ n. u64_at self.old ≡ Ok (n, self.new)) }
         ensures bytes { IfOk result (λ n. Takes self.old (u64_bytes n) self.new) }
@@ -90,13 +88,12 @@ impl<'a> Get<'a> {
         ensures end { IfErr result (λ cut. cut ≡ cut_of self.old) }
         ensures stays { OnErr result (self.new ≡ self.old) }
     {
-        let field = self.next(8)?;
-        self.place += 8;
+        let field = self.take(8)?;
         Ok(LittleEndian::read_u64(field))
     }
 
     /// Reads a signed number of four bytes.
-    #[tactic(auto, using(crate::proofs::Fields::i32_taken), unfolding(crate::specs::Reading::i32_at))]
+    #[tactic(auto, unfolding(crate::specs::Reading::i32_at))]
     pub fn get_i32(&mut self) -> Result<i32, Cut>
         ensures value { IfOk result (λ z. i32_at self.old ≡ Ok (z, self.new)) }
         ensures bytes { IfOk result (λ z. Takes self.old (i32_bytes z) self.new) }
@@ -105,8 +102,7 @@ impl<'a> Get<'a> {
         ensures end { IfErr result (λ cut. cut ≡ cut_of self.old) }
         ensures stays { OnErr result (self.new ≡ self.old) }
     {
-        let field = self.next(4)?;
-        self.place += 4;
+        let field = self.take(4)?;
         Ok(LittleEndian::read_i32(field))
     }
 
@@ -121,9 +117,24 @@ impl<'a> Get<'a> {
         ensures stays { OnErr result (self.new ≡ self.old) }
     {
         let count = LittleEndian::read_u32(self.next(4)?) as usize;
-        let field = self.next(4 + count)?;
-        self.place += 4 + count;
+        let field = self.take(4 + count)?;
         Ok(&field[4..])
+    }
+
+    // Reads the next `n` bytes.
+    fn take(&mut self, n: usize) -> Result<&'a [u8], Cut>
+        ensures value { IfOk result (λ field. bytes_at n self.old ≡ Ok (field.now, self.new)) }
+        ensures taken { IfOk result (λ field. Takes self.old field.now self.new) }
+        ensures length { IfOk result (λ field. length field.now ≡ n) }
+        ensures bytes { IfOk result (λ field. AreBytes field.now) }
+        ensures fits { IsOk result ↔ (n ≤ length (unread self.old)) }
+        ensures cut { IfErr result (λ cut. bytes_at n self.old ≡ Err cut) }
+        ensures end { IfErr result (λ cut. cut ≡ cut_of self.old) }
+        ensures stays { OnErr result (self.new ≡ self.old) }
+    {
+        let field = self.next(n)?;
+        self.place += n;
+        Ok(field)
     }
 
     // The next `n` bytes, which stay unread.
@@ -136,12 +147,9 @@ impl<'a> Get<'a> {
         ensures cut { IfErr result (λ cut. bytes_at n self.now ≡ Err cut) }
         ensures end { IfErr result (λ cut. cut ≡ cut_of self.now) }
     {
-        match front(&self.bytes[self.place..], n) {
-            Some(field) => Ok(field),
-            None => Err(Cut {
-                at: self.bytes.len() as u64,
-            }),
-        }
+        front(&self.bytes[self.place..], n).ok_or(Cut {
+            at: self.bytes.len() as u64,
+        })
     }
 }
 

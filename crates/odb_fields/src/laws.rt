@@ -23,7 +23,6 @@ pub fn read_fields()
 {}
 
 /// How many bytes each field has. It does nothing.
-#[tactic(auto, unfolding(crate::specs::Fields::u8_bytes, crate::specs::Fields::u32_bytes, crate::specs::Fields::u64_bytes, crate::specs::Fields::i32_bytes, crate::specs::Fields::text_bytes))]
 pub fn field_lengths()
     ensures u8 { (n : ℕ) → length (u8_bytes n) ≡ 1 }
     ensures u32 { (n : ℕ) → length (u32_bytes n) ≡ 4 }

@@ -1,4 +1,5 @@
-use Rattle.odb_fields.proofs.Fields.{i32_only, text_only, u8_only, u32_only, u64_only}
+use Rattle.odb_fields.proofs.Numbers.{i32_only, u8_only, u32_only, u64_only}
+use Rattle.odb_fields.proofs.Texts.{text_only}
 use Rattle.odb_fields.proofs.laws.read_fields.Goals as goal
 
 pub returns : goal.returns

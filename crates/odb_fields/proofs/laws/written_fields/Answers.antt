@@ -1,4 +1,5 @@
-use Rattle.odb_fields.proofs.Fields.{i32_back, text_back, u8_back, u32_back, u64_back}
+use Rattle.odb_fields.proofs.Numbers.{i32_back, u8_back, u32_back, u64_back}
+use Rattle.odb_fields.proofs.Texts.{text_back}
 use Rattle.odb_fields.proofs.laws.written_fields.Goals as goal
 
 pub returns : goal.returns
