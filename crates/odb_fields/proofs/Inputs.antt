@@ -2,8 +2,9 @@
 use Rattle.std.proofs.Common.{◌≡◌, ℕ, ◌+◌, ◌<◌, ◌≤◌, Bool, true, false, cond, ltb, List, ◌++◌, length, get_or, take, drop, Result, Ok, Err, refl, sym, ap, subst, ◌∙◌, append_assoc, arith, inl, inr}
 use Rattle.std.proofs.lemmas.Bool.{cases_lt, ltb-false, le-ltb}
 use Rattle.std.proofs.lemmas.List.{take_at, drop_at, drop-drop, take-append-drop, length-append, length-take, get_or-drop, get_or-take, get_or_past}
+use Rattle.odb_fields.specs.declared.get.Cut.{Cut}
 use Rattle.odb_fields.specs.Bytes.{AreBytes}
-use Rattle.odb_fields.specs.Reading.{Cursor, ReadsBack, Takes, bytes_at, cut_of, past, unread, ◌>>=◌}
+use Rattle.odb_fields.specs.Reading.{Cursor, ReadsBack, Takes, bytes_at, cut_of, past, unread, with_fault, ◌>>=◌}
 
 -- ---- bytes
 
@@ -95,3 +96,14 @@ pub made_back : {A B E : Type 0} (read : Cursor → Result (A × Cursor) E) (mak
 made_back read make x v back input rest e =
     let a = back input rest e in
     (rw a.0 refl, a.1)
+
+-- the same field, where a format tells the fault in its own words
+pub with_fault_back : {A E : Type 0} (told : Cut → E) (read : Cursor → Result (A × Cursor) Cut) (x : List ℕ) (v : A) → ReadsBack read x v → ReadsBack (λ input. with_fault told (read input)) x v
+with_fault_back told read x v back input rest e =
+    let a = back input rest e in
+    (rw a.0 refl, a.1)
+
+-- what was read where the fault would be told in a format's own words
+pub with_fault_ok : {A E : Type 0} (told : Cut → E) (r : Result A Cut) (x : A) → with_fault told r ≡ Ok x → r ≡ Ok x
+with_fault_ok told (Ok y) x e = cc
+with_fault_ok told (Err d) x e = absurd cc

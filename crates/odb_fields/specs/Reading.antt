@@ -28,6 +28,11 @@ abbrev pub ◌>>=◌ : {A B E : Type 0} → Result A E → (A → Result B E) �
 (Ok x) >>= next = next x
 (Err e) >>= next = Err e
 
+-- a reading, whose fault a format tells in its own words
+abbrev pub with_fault : {A E : Type 0} → (Cut → E) → Result A Cut → Result A E
+with_fault told (Ok x) = Ok x
+with_fault told (Err cut) = Err (told cut)
+
 -- the next n bytes, and the place behind them; a fault where there are fewer
 abbrev pub bytes_at : ℕ → Cursor → Result (List ℕ × Cursor) Cut
 bytes_at n input = if nat_lt (length (unread input)) n then Err (cut_of input) else Ok (take n (unread input), past n input)

@@ -5,8 +5,11 @@ ghost use Rattle.odb_fields.specs.Putting.{IsOver, KeepsVector, bytes_in};
 use byteorder::{ByteOrder, LittleEndian};
 use std::alloc::AllocError;
 
-/// Appends fields to a vector of bytes. Where memory is wanted, the vector's bytes stay as they were.
-#[derive(Drop)]
+/// Appends fields to a vector of bytes. Where there is no memory for a field, the vector's bytes stay as they were.
+///
+/// Contracts see the bytes of the vector, and that it is always the one that was handed in: so the caller knows
+/// what its vector holds afterwards.
+#[derive(Debug, Drop)]
 pub struct Put<'a> {
     out: &'a mut Vec<u8>,
 }
