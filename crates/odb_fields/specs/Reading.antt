@@ -1,5 +1,5 @@
 -- Reading fields from an input, one after another.
-use Rattle.std.specs.Prelude.{◌≡◌, ◌+◌, ◌<◌, ◌++◌, List, ℕ, ℤ, Result, Ok, Err, if◌then◌else◌, drop, length, nat_lt, slice_index, take}
+use Rattle.std.specs.Prelude.{◌≡◌, ◌+◌, ◌++◌, List, ℕ, ℤ, Result, Ok, Err, if◌then◌else◌, drop, length, nat_lt, slice_index, take}
 use Rattle.std.specs.Int.{w32, cast_signed}
 use Rattle.byteorder.specs.Endian.{little_number}
 use Rattle.odb_fields.specs.declared.get.Cut.{Cut}

@@ -1,4 +1,4 @@
-ghost use Rattle.std.specs.Prelude.{◌≡◌, ◌+◌, ◌≤◌, ◌↔◌, Ok, Err, IfOk, IfErr, IfSome, IsOk, IsSome, OnErr, length, take};
+ghost use Rattle.std.specs.Prelude.{◌≡◌, ◌+◌, ◌^◌, ◌<◌, ◌≤◌, ◌↔◌, Ok, Err, IfOk, IfErr, IfSome, IsOk, IsSome, OnErr, length, take};
 ghost use Rattle.odb_fields.specs.Bytes.{AreBytes};
 ghost use Rattle.odb_fields.specs.Fields.{u8_bytes, u32_bytes, u64_bytes, i32_bytes, text_bytes};
 
@@ -106,11 +106,12 @@ impl<'a> Get<'a> {
         Ok(LittleEndian::read_i32(field))
     }
 
-    /// Reads a text and lends its bytes.
+    /// Reads a text, and lends its bytes, which stay in the input.
     #[tactic(auto, unfolding(crate::specs::Reading::u32_at, crate::specs::Reading::text_at, crate::specs::Reading::text_length_at))]
     pub fn get_text(&mut self) -> Result<&'a [u8], Cut>
         ensures value { IfOk result (λ text. text_at self.old ≡ Ok (text.now, self.new)) }
         ensures bytes { IfOk result (λ text. Takes self.old (text_bytes text.now) self.new) }
+        ensures short { IfOk result (λ text. length text.now < 2 ^ 32) }
         ensures fits { IsOk result ↔ (4 + text_length_at self.old ≤ length (unread self.old)) }
         ensures cut { IfErr result (λ cut. text_at self.old ≡ Err cut) }
         ensures end { IfErr result (λ cut. cut ≡ cut_of self.old) }
