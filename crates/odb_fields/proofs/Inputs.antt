@@ -38,7 +38,7 @@ ok_is x y e = cc
 
 -- ---- places
 
--- first some bytes and then others
+-- the place behind some bytes and then others
 pub past-append : (input : Cursor) (x y : List ℕ) → past (length (x ++ y)) input ≡ past (length y) (past (length x) input)
 past-append input x y = ap (λ (n : ℕ). record { bytes = input.bytes; place = n }) (omega (arith, length-append x y))
 
@@ -51,7 +51,7 @@ unread-past input bytes rest e =
 pub AreBytes-taken : (old new : Cursor) (bytes : List ℕ) → Takes old bytes new → AreBytes old.bytes → AreBytes new.bytes
 AreBytes-taken old new bytes taken are = rw taken.moved are
 
--- first some bytes and then others
+-- some bytes were taken and then others
 pub Takes-append : (a b c : Cursor) (x y : List ℕ) → Takes a x b → Takes b y c → Takes a (x ++ y) c
 Takes-append a b c x y first second = record {
   parts = first.parts ∙ ap (λ (t : List ℕ). x ++ t) second.parts ∙ sym (append_assoc x y (unread c));

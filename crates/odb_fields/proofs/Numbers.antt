@@ -42,24 +42,29 @@ module _ {A : Type 0} (n : ℕ) (Fits : A → Type 0) (spelling : A → List ℕ
 
 -- ---- lengths
 
+-- a number of one byte has one byte
 pub length-u8_bytes : (n : ℕ) → length (u8_bytes n) ≡ 1
 unfolding u8_bytes
 length-u8_bytes n = refl
 
+-- a number of four bytes has four
 pub length-u32_bytes : (n : ℕ) → length (u32_bytes n) ≡ 4
 unfolding u32_bytes
 length-u32_bytes n = refl
 
+-- a number of eight bytes has eight
 pub length-u64_bytes : (n : ℕ) → length (u64_bytes n) ≡ 8
 unfolding u64_bytes
 length-u64_bytes n = refl
 
+-- a signed number has four bytes
 pub length-i32_bytes : (z : ℤ) → length (i32_bytes z) ≡ 4
 unfolding i32_bytes
 length-i32_bytes z = refl
 
 -- ---- bytes as the spelling of what they mean
 
+-- one byte spells the number that it means
 pub u8_spelled : (bytes : List ℕ) → length bytes ≡ 1 → AreBytes bytes → u8_bytes (get_or bytes 0 0) ≡ bytes
 unfolding u8_bytes
 u8_spelled [] len are = absurd (omega (arith, len))
@@ -74,10 +79,12 @@ four_bytes bytes = omega arith
 eight_bytes : (bytes : List ℕ) → little_number 8 bytes ≡ from_le_bytes w64 bytes
 eight_bytes bytes = omega arith
 
+-- four bytes spell the number that they mean
 pub u32_spelled : (bytes : List ℕ) → length bytes ≡ 4 → AreBytes bytes → u32_bytes (little_number 4 bytes) ≡ bytes
 unfolding u32_bytes
 u32_spelled bytes len are = le_bytes_4 bytes (little_number 4 bytes) len are (four_bytes bytes)
 
+-- eight bytes spell the number that they mean
 pub u64_spelled : (bytes : List ℕ) → length bytes ≡ 8 → AreBytes bytes → u64_bytes (little_number 8 bytes) ≡ bytes
 unfolding u64_bytes
 u64_spelled bytes len are = le_bytes_8 bytes (little_number 8 bytes) len are (eight_bytes bytes)
@@ -86,6 +93,7 @@ u64_spelled bytes len are = le_bytes_8 bytes (little_number 8 bytes) len are (ei
 four_below : (bytes : List ℕ) → AreBytes bytes → little_number 4 bytes < 2 ^ 32
 four_below bytes are = little_from-lt 0 4 bytes are
 
+-- four bytes spell the signed number that they mean
 pub i32_spelled : (bytes : List ℕ) → length bytes ≡ 4 → AreBytes bytes → i32_bytes (cast_signed w32 (little_number 4 bytes)) ≡ bytes
 unfolding i32_bytes u32_bytes
 i32_spelled bytes len are = ap u32_bytes (of_z-to_z w32 (little_number 4 bytes) (four_below bytes are)) ∙ u32_spelled bytes len are
@@ -96,10 +104,12 @@ i32_fits bytes len are = sfits_to_z (record { fits = four_below bytes are })
 
 -- ---- each number
 
+-- numbers of one byte
 u8_field : IsFixedField 1 (λ n. n < 2 ^ 8) u8_bytes (λ bytes. get_or bytes 0 0)
 unfolding u8_bytes
 u8_field = record { len = λ n. refl; meant = λ n lt. refl; fits = λ bytes len are. are 0; spelled = u8_spelled }
 
+-- numbers of four bytes
 u32_field : IsFixedField 4 (λ n. n < 2 ^ 32) u32_bytes (little_number 4)
 unfolding u32_bytes
 u32_field = record {
@@ -109,6 +119,7 @@ u32_field = record {
   spelled = u32_spelled;
 }
 
+-- numbers of eight bytes
 u64_field : IsFixedField 8 (λ n. n < 2 ^ 64) u64_bytes (little_number 8)
 unfolding u64_bytes
 u64_field = record {
@@ -125,38 +136,47 @@ i32_meant z fits =
     let below : cast_unsigned w32 z < 2 ^ 32 = omega (arith, Fits-of_z fits) in
     ap (cast_signed w32) (little_number-reads_back 4 (cast_unsigned w32 z) [] below) ∙ to_z-of_z w32 z fits
 
+-- signed numbers of four bytes
 i32_field : IsFixedField 4 (FitsSigned w32) i32_bytes (λ bytes. cast_signed w32 (little_number 4 bytes))
 unfolding i32_bytes
 i32_field = record { len = λ z. refl; meant = i32_meant; fits = i32_fits; spelled = i32_spelled }
 
+-- a number of one byte is read back
 pub u8_back : (n : ℕ) → n < 2 ^ 8 → ReadsBack u8_at (u8_bytes n) n
 unfolding u8_at
 u8_back = value_back 1 _ u8_bytes _ u8_field
 
+-- a number of one byte has no second spelling
 pub u8_only : ReadsOnly u8_at u8_bytes (λ n. n < 2 ^ 8)
 unfolding u8_at
 u8_only = value_only 1 _ u8_bytes _ u8_field
 
+-- a number of four bytes is read back
 pub u32_back : (n : ℕ) → n < 2 ^ 32 → ReadsBack u32_at (u32_bytes n) n
 unfolding u32_at
 u32_back = value_back 4 _ u32_bytes _ u32_field
 
+-- a number of four bytes has no second spelling
 pub u32_only : ReadsOnly u32_at u32_bytes (λ n. n < 2 ^ 32)
 unfolding u32_at
 u32_only = value_only 4 _ u32_bytes _ u32_field
 
+-- a number of eight bytes is read back
 pub u64_back : (n : ℕ) → n < 2 ^ 64 → ReadsBack u64_at (u64_bytes n) n
 unfolding u64_at
 u64_back = value_back 8 _ u64_bytes _ u64_field
 
+-- a number of eight bytes has no second spelling
 pub u64_only : ReadsOnly u64_at u64_bytes (λ n. n < 2 ^ 64)
 unfolding u64_at
 u64_only = value_only 8 _ u64_bytes _ u64_field
 
+-- a signed number is read back
 pub i32_back : (z : ℤ) → FitsSigned w32 z → ReadsBack i32_at (i32_bytes z) z
 unfolding i32_at
 i32_back = value_back 4 _ i32_bytes _ i32_field
 
+-- a signed number has no second spelling
 pub i32_only : ReadsOnly i32_at i32_bytes (FitsSigned w32)
 unfolding i32_at
 i32_only = value_only 4 _ i32_bytes _ i32_field

@@ -9,15 +9,18 @@ use Rattle.odb_fields.specs.Reading.{Cursor, ReadsBack, ReadsOnly, Takes, bytes_
 use Rattle.odb_fields.proofs.Inputs.{Takes-append, bind_ok, bytes_back, bytes_only, then_back}
 use Rattle.odb_fields.proofs.Numbers.{length-u32_bytes, u32_back, u32_only, u32_spelled}
 
+-- a text has its bytes and four more
 pub length-text_bytes : (bytes : List ℕ) → length (text_bytes bytes) ≡ 4 + length bytes
 unfolding text_bytes
 length-text_bytes bytes = omega (arith, length-append (u32_bytes (length bytes)) bytes, length-u32_bytes (length bytes))
 
+-- a text is read back
 pub text_back : (bytes : List ℕ) → length bytes < 2 ^ 32 → ReadsBack text_at (text_bytes bytes) bytes
 unfolding text_at text_bytes
 text_back bytes lt =
     then_back u32_at bytes_at (u32_bytes (length bytes)) bytes (length bytes) bytes (u32_back (length bytes) lt) (bytes_back bytes)
 
+-- a text has no second spelling
 pub text_only : ReadsOnly text_at text_bytes (λ bytes. length bytes < 2 ^ 32)
 unfolding text_at text_bytes
 text_only old new bytes are e =

@@ -107,7 +107,7 @@ impl<'a> Get<'a> {
     }
 
     /// Reads a text, and lends its bytes, which stay in the input.
-    #[tactic(auto, unfolding(crate::specs::Reading::u32_at, crate::specs::Reading::text_at, crate::specs::Reading::text_length_at))]
+    #[tactic(auto, unfolding(crate::specs::Reading::text_at, crate::specs::Reading::text_length_at, crate::specs::Reading::u32_at))]
     pub fn get_text(&mut self) -> Result<&'a [u8], Cut>
         ensures value { IfOk result (λ text. text_at self.old ≡ Ok (text.now, self.new)) }
         ensures bytes { IfOk result (λ text. Takes self.old (text_bytes text.now) self.new) }
