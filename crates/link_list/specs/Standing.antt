@@ -32,7 +32,9 @@ left_of ids (Some next) = number (before ids next)
 abbrev pub AreLinked : (ℕ → Bool) → (ℕ → Link) → ℕ → List ℕ → ℕ → Type 0
 AreLinked cell link before [] after = Unit {0}
 AreLinked cell link before (id ∷ ids) after =
-    IsTrue (cell id) × (link id ≡ record { before = before; after = unwrap_or (first ids) after }) × AreLinked cell link id ids after
+    IsTrue (cell id)
+    × (link id ≡ record { before = before; after = unwrap_or (first ids) after })
+    × AreLinked cell link id ids after
 
 -- a head stands over cells and their links for a list of identifiers, in order
 pub record Stands (cell : ℕ → Bool) (link : ℕ → Link) (head : Head) (ids : List ℕ) : Type 0 where
@@ -43,7 +45,8 @@ pub record Stands (cell : ℕ → Bool) (link : ℕ → Link) (head : Head) (ids
 -- the lists of other heads, without a member among these, are as they were
 abbrev pub OthersStand : (ℕ → Bool) → (ℕ → Link) → (ℕ → Bool) → (ℕ → Link) → List ℕ → Type 0
 OthersStand cell link cell' link' ids =
-    (other : Head) (members : List ℕ) → AreApart ids members → Stands cell link other members → Stands cell' link' other members
+    (other : Head) (members : List ℕ) → AreApart ids members → Stands cell link other members
+    → Stands cell' link' other members
 
 -- the members from a number on, by the links, and at most so many: the list that is read off the cells
 abbrev pub members_from : (ℕ → Link) → ℕ → ℕ → List ℕ

@@ -40,7 +40,8 @@ is_place ids (Some next) = holds ids next
 
 -- The laws of cells.
 
-pub cell-with_link : (links : List Link) (id other : ℕ) (link : Link) → cell links id ≡ true → cell (with_link links id link) other ≡ cell links other
+pub cell-with_link : (links : List Link) (id other : ℕ) (link : Link) → cell links id ≡ true
+    → cell (with_link links id link) other ≡ cell links other
 cell-with_link links zero other link is = refl
 cell-with_link links (suc place) zero link is = refl
 cell-with_link links (suc place) (suc other) link is = ap (λ n. ltb other n) (length-set links place link)
@@ -50,13 +51,16 @@ pub within : (links : List Link) (id : ℕ) → cell links id ≡ true → (0 < 
 within links zero is = absurd (false≢true is)
 within links (suc place) is = (omega arith, omega (arith, ltb-true place (length links) is))
 
-pub link_of-set : (links : List Link) (id : ℕ) (link : Link) → cell links id ≡ true → link_of (with_link links id link) id ≡ link
+pub link_of-set : (links : List Link) (id : ℕ) (link : Link) → cell links id ≡ true
+    → link_of (with_link links id link) id ≡ link
 link_of-set links zero link is = absurd (false≢true is)
 link_of-set links (suc place) link is =
     let h : place < length links = omega (arith, (within links (suc place) is).1) in
     get_or-set_same links place link none h
 
-pub link_of-others : (links : List Link) (id other : ℕ) (link : Link) → cell links id ≡ true → other ≢ id → link_of (with_link links id link) other ≡ link_of links other
+pub link_of-others : (links : List Link) (id other : ℕ) (link : Link) → cell links id ≡ true → other ≢ id
+    → link_of (with_link links id link) other ≡ link_of links other
 link_of-others links zero other link is ne = refl
 link_of-others links (suc place) zero link is ne = refl
-link_of-others links (suc place) (suc other) link is ne = get_or-set_other links place other link none (λ e. ne (ap suc e))
+link_of-others links (suc place) (suc other) link is ne =
+    get_or-set_other links place other link none (λ e. ne (ap suc e))

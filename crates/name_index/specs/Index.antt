@@ -19,12 +19,17 @@ spare index = length index.heads - index.held
 pub record Stands (cell : ℕ → Bool) (name : ℕ → List ℕ) (chain : ℕ → ℕ) (index : Index) (names : Names) : Type 0 where
   -- for each bucket there is a chain,
   pub chains : ℕ → List ℕ
-  pub linked : (bucket : ℕ) → bucket < length index.heads → IsChain cell chain (slice_index index.heads bucket) (chains bucket)
+  pub linked : (bucket : ℕ) → bucket < length index.heads
+      → IsChain cell chain (slice_index index.heads bucket) (chains bucket)
   pub distinct : (bucket : ℕ) → IsDistinct (chains bucket)
   -- in which each identifier stands in the map under its name, and in the bucket of that name;
-  pub listed : (bucket id : ℕ) → holds (chains bucket) id ≡ true → (bucket < length index.heads) × (bucket ≡ bucket_at (length index.heads) (name id)) × (get names (name id) ≡ Some id)
+  pub listed : (bucket id : ℕ) → holds (chains bucket) id ≡ true
+      → (bucket < length index.heads)
+      × (bucket ≡ bucket_at (length index.heads) (name id))
+      × (get names (name id) ≡ Some id)
   -- what the map has under a name has that name, and is in its bucket;
-  pub found : (bytes : List ℕ) (id : ℕ) → get names bytes ≡ Some id → (name id ≡ bytes) × (holds (chains (bucket_at (length index.heads) bytes)) id ≡ true)
+  pub found : (bytes : List ℕ) (id : ℕ) → get names bytes ≡ Some id
+      → (name id ≡ bytes) × (holds (chains (bucket_at (length index.heads) bytes)) id ≡ true)
   -- and so many names are held as the map has.
   pub counted : index.held ≡ len names
 

@@ -32,17 +32,20 @@ with_chain cells (suc place) next = slice_set cells place ((slice_index_or cells
 
 -- The laws of cells.
 
-pub cell-with_chain : (cells : List Cell) (id other next : ℕ) → cell cells id ≡ true → cell (with_chain cells id next) other ≡ cell cells other
+pub cell-with_chain : (cells : List Cell) (id other next : ℕ) → cell cells id ≡ true
+    → cell (with_chain cells id next) other ≡ cell cells other
 cell-with_chain cells zero other next is = refl
 cell-with_chain cells (suc place) zero next is = refl
-cell-with_chain cells (suc place) (suc other) next is = ap (λ n. ltb other n) (length-set cells place ((slice_index_or cells place no_cell).0, next))
+cell-with_chain cells (suc place) (suc other) next is =
+    ap (λ n. ltb other n) (length-set cells place ((slice_index_or cells place no_cell).0, next))
 
 -- the identifier's place lies within the vector
 pub within : (cells : List Cell) (id : ℕ) → cell cells id ≡ true → (0 < id) × (id ≤ length cells)
 within cells zero is = absurd (false≢true is)
 within cells (suc place) is = (omega arith, omega (arith, ltb-true place (length cells) is))
 
-pub name_of-with_chain : (cells : List Cell) (id other next : ℕ) → cell cells id ≡ true → name_of (with_chain cells id next) other ≡ name_of cells other
+pub name_of-with_chain : (cells : List Cell) (id other next : ℕ) → cell cells id ≡ true
+    → name_of (with_chain cells id next) other ≡ name_of cells other
 name_of-with_chain cells zero other next is = refl
 name_of-with_chain cells (suc place) zero next is = refl
 name_of-with_chain cells (suc place) (suc other) next is = elim (cases_eq other place) [
@@ -54,17 +57,20 @@ name_of-with_chain cells (suc place) (suc other) next is = elim (cases_eq other 
   | inr ne ↦ ap (λ (c : Cell). c.0) (get_or-set_other cells place other ((get_or cells place no_cell).0, next) no_cell ne)
 ]
 
-pub chain_of-set : (cells : List Cell) (id next : ℕ) → cell cells id ≡ true → chain_of (with_chain cells id next) id ≡ next
+pub chain_of-set : (cells : List Cell) (id next : ℕ) → cell cells id ≡ true
+    → chain_of (with_chain cells id next) id ≡ next
 chain_of-set cells zero next is = absurd (false≢true is)
 chain_of-set cells (suc place) next is =
     let h : place < length cells = omega (arith, (within cells (suc place) is).1) in
     ap (λ (c : Cell). c.1) (get_or-set_same cells place ((get_or cells place no_cell).0, next) no_cell h)
 
-pub chain_of-others : (cells : List Cell) (id other next : ℕ) → cell cells id ≡ true → other ≢ id → chain_of (with_chain cells id next) other ≡ chain_of cells other
+pub chain_of-others : (cells : List Cell) (id other next : ℕ) → cell cells id ≡ true → other ≢ id
+    → chain_of (with_chain cells id next) other ≡ chain_of cells other
 chain_of-others cells zero other next is ne = refl
 chain_of-others cells (suc place) zero next is ne = refl
 chain_of-others cells (suc place) (suc other) next is ne =
-    ap (λ (c : Cell). c.1) (get_or-set_other cells place other ((get_or cells place no_cell).0, next) no_cell (λ e. ne (ap suc e)))
+    ap (λ (c : Cell). c.1)
+        (get_or-set_other cells place other ((get_or cells place no_cell).0, next) no_cell (λ e. ne (ap suc e)))
 
 -- the map that an index has over the cells
 abbrev pub held_names : List Cell → Index → Names
