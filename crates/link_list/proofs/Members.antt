@@ -2,23 +2,14 @@
 use Rattle.std.proofs.Common.{◌≡◌, ◌≢◌, ◌||◌, true, false, eqb, List, [], ◌∷◌, ◌++◌, ℕ, Option, Some, None, IsTrue, refl, sym, ap, ◌∙◌, inl, inr, append-nil}
 use Rattle.std.specs.Option.{IfSome}
 use Rattle.std.proofs.lemmas.Bool.{cases_Bool, eqb-true, eq-eqb, false≢true, or_parts}
-use Rattle.link_list.specs.Ids.{AreApart, IsDistinct, after, before, before_from, first, holds, placed, placed_before, without}
+use Rattle.link_list.specs.Ids.{AreApart, after, before, before_from, first, placed, placed_before}
+use Rattle.odb_base.specs.Ids.{IsDistinct, holds, without}
+use Rattle.odb_base.proofs.Ids.{holds-append, member_differs}
 use Rattle.link_list.specs.Standing.{last_or, left_of, number}
 
 -- an identifier is another, or the test says that it isn't
 eqb-refl : (id : ℕ) → eqb id id ≡ true
 eqb-refl id = eq-eqb id id refl
-
-pub holds-append : (xs ys : List ℕ) (id : ℕ) → holds (xs ++ ys) id ≡ (holds xs id || holds ys id)
-holds-append [] ys id = refl
-holds-append (x ∷ xs) ys id = elim (cases_Bool (eqb x id)) [
-  | inl e ↦ rw e refl
-  | inr e ↦ rw e (holds-append xs ys id)
-]
-
--- a member of a list without another's number is another
-pub member_differs : (ids : List ℕ) (id other : ℕ) → holds ids id ≡ true → holds ids other ≡ false → id ≢ other
-member_differs ids id other inside outside e = false≢true (sym outside ∙ ap (holds ids) (sym e) ∙ inside)
 
 -- a list cut at the first place of an identifier
 pub record Split (id : ℕ) (ids : List ℕ) : Type 0 where

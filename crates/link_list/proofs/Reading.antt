@@ -3,10 +3,12 @@ use Rattle.std.proofs.Common.{◌≡◌, ◌≢◌, ◌≤◌, Bool, true, false
 use Rattle.std.proofs.lemmas.Bool.{cases_Bool, eq-eqb, false≢true, false_from_ne_true, or_left, or_right}
 use Rattle.link_list.specs.declared.link.Head.{Head}
 use Rattle.link_list.specs.declared.link.Link.{Link}
-use Rattle.link_list.specs.Ids.{IsDistinct, after, first, holds, placed, without}
+use Rattle.link_list.specs.Ids.{after, first, placed}
+use Rattle.odb_base.specs.Ids.{IsDistinct, holds, without}
 use Rattle.link_list.specs.Standing.{AreLinked, Stands, members_from, number}
 use Rattle.link_list.proofs.Linking.{member_is_cell}
-use Rattle.link_list.proofs.Members.{Parts, Split, after-split, distinct_out, holds-append, member_differs, parts_of, placed_before-split, split_at, without-split}
+use Rattle.link_list.proofs.Members.{Parts, Split, after-split, distinct_out, parts_of, placed_before-split, split_at, without-split}
+use Rattle.odb_base.proofs.Ids.{holds-append, member_differs}
 
 -- a member back in its place between two parts
 back_between : (front back : List ℕ) (id : ℕ) → Parts front (id ∷ back) → placed id (first back) (front ++ back) ≡ front ++ id ∷ back

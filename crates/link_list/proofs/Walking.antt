@@ -1,7 +1,8 @@
 -- A walk along a list to its last member.
 use Rattle.std.proofs.Common.{◌≡◌, ◌≢◌, ◌<◌, true, false, cond, eqb, List, [], ◌∷◌, ◌++◌, ℕ, length, refl, sym, ap, ◌∙◌, inl, inr, arith}
 use Rattle.std.proofs.lemmas.Bool.{cases_Bool, eq-eqb, false≢true, false_from_ne_true, or_left, or_parts}
-use Rattle.link_list.specs.Ids.{IsDistinct, first, holds}
+use Rattle.link_list.specs.Ids.{first}
+use Rattle.odb_base.specs.Ids.{IsDistinct, holds}
 use Rattle.link_list.specs.Standing.{last_or, number}
 use Rattle.link_list.proofs.Members.{Split, parts_of}
 

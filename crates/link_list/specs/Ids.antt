@@ -1,15 +1,6 @@
--- Plain lists of identifiers: who is a member, who stands beside whom, and what an entry and a leaving make.
-use Rattle.std.specs.Prelude.{◌≡◌, ◌==◌, Bool, List, [], ◌∷◌, ◌++◌, ℕ, Option, Some, None, if◌then◌else◌, true, false}
-use Rattle.std.specs.List.{list_any}
-
--- the identifier is a member of the list
-abbrev pub holds : List ℕ → ℕ → Bool
-holds ids id = list_any (λ x. x == id) ids
-
--- no member stands twice in the list
-abbrev pub IsDistinct : List ℕ → Type 0
-IsDistinct [] = Unit {0}
-IsDistinct (id ∷ ids) = (holds ids id ≡ false) × IsDistinct ids
+-- Plain lists of identifiers: who stands beside whom, and what an entry makes.
+use Rattle.std.specs.Prelude.{◌≡◌, ◌==◌, Bool, List, [], ◌∷◌, ◌++◌, ℕ, Option, Some, None, if◌then◌else◌, false, true}
+use Rattle.odb_base.specs.Ids.{holds}
 
 -- the lists have no common member
 abbrev pub AreApart : List ℕ → List ℕ → Type 0
@@ -33,11 +24,6 @@ before_from last (x ∷ xs) id = if x == id then last else before_from (Some x) 
 -- the member before an identifier
 abbrev pub before : List ℕ → ℕ → Option ℕ
 before ids id = before_from None ids id
-
--- the list without an identifier
-abbrev pub without : ℕ → List ℕ → List ℕ
-without id [] = []
-without id (x ∷ xs) = if x == id then xs else x ∷ without id xs
 
 -- the list with an identifier put before a member, or last where that is no member
 abbrev pub placed_before : ℕ → ℕ → List ℕ → List ℕ

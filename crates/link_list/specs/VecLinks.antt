@@ -4,7 +4,7 @@ use Rattle.std.proofs.Common.{◌≡◌, ◌≢◌, ◌<◌, ◌≤◌, true, lt
 use Rattle.std.proofs.lemmas.Bool.{ltb-true, false≢true}
 use Rattle.link_list.specs.declared.link.Head.{Head}
 use Rattle.link_list.specs.declared.link.Link.{Link}
-use Rattle.link_list.specs.Ids.{holds}
+use Rattle.odb_base.specs.Ids.{holds}
 use Rattle.link_list.specs.Standing.{Stands, members_from}
 
 -- the identifier has a place

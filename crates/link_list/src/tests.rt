@@ -1,5 +1,5 @@
 ghost use Rattle.std.specs.Prelude.{◌≡◌, IfOk, IfSome, length, refl};
-ghost use Rattle.link_list.specs.Ids.{holds};
+ghost use Rattle.odb_base.specs.Ids.{holds};
 ghost use Rattle.link_list.specs.VecLinks.{is_place, cell as cell_in, link_of as link_in, with_link as with_link_in};
 
 use super::*;

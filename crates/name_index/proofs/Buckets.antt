@@ -11,7 +11,9 @@ use Rattle.std.proofs.lemmas.List.{get_or_read}
 use Rattle.std.proofs.lemmas.Slice.Eq.{bytes_eq-Decides}
 use Rattle.std.proofs.Math.Nat.{mod-lt}
 use Rattle.std.proofs.lemmas.Bool.{cases_Bool, cases_eq, eq-eqb, eqb-true, ne_eqb, false≢true, false_from_ne_true, or_cases, or_left, or_right}
-use Rattle.name_index.specs.Chain.{AreCells, IsChain, IsDistinct, holds, ids_from}
+use Rattle.name_index.specs.Chain.{AreCells, IsChain, ids_from}
+use Rattle.odb_base.specs.Ids.{IsDistinct, holds}
+use Rattle.odb_base.proofs.Ids.{member_differs}
 use Rattle.name_index.specs.Hash.{bucket_at}
 use Rattle.name_index.specs.Index.{Index, Stands}
 use Rattle.name_index.specs.Names.{Names}
@@ -22,10 +24,6 @@ use Rattle.name_index.proofs.Maps.{cases_name, get-insert_other, get-insert_same
 pub bucket_at-lt : (buckets : ℕ) (name : List ℕ) → 0 < buckets → bucket_at buckets name < buckets
 unfolding bucket_at
 bucket_at-lt buckets name h = mod-lt _ h
-
--- an identifier in a list without another is another
-pub differs : (ids : List ℕ) (id other : ℕ) → holds ids id ≡ true → holds ids other ≡ false → id ≢ other
-differs ids id other inside outside e = false≢true (sym outside ∙ ap (holds ids) (sym e) ∙ inside)
 
 -- a chain whose links are as they were
 pub chain_kept : (cell cell' : ℕ → Bool) (chain chain' : ℕ → ℕ) → ((k : ℕ) → cell' k ≡ cell k) → (first : ℕ) (ids : List ℕ) → ((k : ℕ) → holds ids k ≡ true → chain' k ≡ chain k) → IsChain cell chain first ids → IsChain cell' chain' first ids
@@ -158,7 +156,7 @@ module _ (cell cell' : ℕ → Bool) (name name' : ℕ → List ℕ) (chain chai
 
   kept_chain : (k : ℕ) → k < length index.heads → IsChain cell' chain' (slice_index index.heads k) (stands.chains k)
   kept_chain k h = chain_kept cell cell' chain chain' same_cell (slice_index index.heads k) (stands.chains k)
-      (λ j inside. others j (differs (stands.chains k) j id inside (outside k))) (stands.linked k h)
+      (λ j inside. others j (member_differs (stands.chains k) j id inside (outside k))) (stands.linked k h)
 
   linked' : (k : ℕ) → k < length (slice_set index.heads at id) → IsChain cell' chain' (slice_index (slice_set index.heads at id) k) (chains' k)
   linked' k h = elim (cases_eq k at) [

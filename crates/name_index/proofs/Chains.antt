@@ -1,7 +1,8 @@
 -- A walk along a chain, step by step.
 use Rattle.std.proofs.Common.{◌≡◌, ◌≢◌, ◌+◌, ◌-◌, ◌<◌, ◌≤◌, Bool, true, eqb, List, [], ◌∷◌, ◌++◌, ℕ, zero, suc, refl, sym, ap, ◌∙◌, arith, append_assoc}
 use Rattle.std.proofs.lemmas.Bool.{eq-eqb, or_left, or_right}
-use Rattle.name_index.specs.Chain.{AreCells, holds, ids_from}
+use Rattle.name_index.specs.Chain.{AreCells, ids_from}
+use Rattle.odb_base.specs.Ids.{holds}
 
 holds_first : (id : ℕ) (ids : List ℕ) → holds (id ∷ ids) id ≡ true
 holds_first id ids = or_left (eqb id id) (holds ids id) (eq-eqb id id refl)

@@ -3,11 +3,13 @@ use Rattle.std.proofs.Common.{◌≡◌, ◌≢◌, ◌-◌, ◌<◌, Bool, true
 use Rattle.std.specs.FinMap.{get, remove}
 use Rattle.std.specs.Prelude.{slice_index}
 use Rattle.std.proofs.lemmas.Bool.{cases_Bool, cases_eq, eq-eqb, eqb-true, ne_eqb, false≢true, false_from_ne_true, or_cases, or_left, or_parts, or_right}
-use Rattle.name_index.specs.Chain.{AreCells, IsChain, IsDistinct, holds, ids_from, prior_in, prior_of, without}
+use Rattle.name_index.specs.Chain.{AreCells, IsChain, ids_from, prior_in, prior_of}
+use Rattle.odb_base.specs.Ids.{IsDistinct, holds, without}
 use Rattle.name_index.specs.Hash.{bucket_at}
 use Rattle.name_index.specs.Index.{Index, Stands}
 use Rattle.name_index.specs.Names.{Names}
-use Rattle.name_index.proofs.Buckets.{at_other, at_same, chain_cells, chain_kept, differs}
+use Rattle.name_index.proofs.Buckets.{at_other, at_same, chain_cells, chain_kept}
+use Rattle.odb_base.proofs.Ids.{member_differs}
 use Rattle.name_index.proofs.Maps.{cases_name, get-remove_other, get-remove_same, len-remove_some, not_None, same_Some}
 
 -- who is in a list without an identifier
@@ -91,7 +93,7 @@ module _ (cell cell' : ℕ → Bool) (chain chain' : ℕ → ℕ) (same_cell : (
         let here = prior_in-same p x xs id e in
         let out : holds xs p ≡ false = (or_parts (eqb x p) (holds xs p) outside).1 in
         rw (without-same x xs id e, ap chain' (sym here) ∙ set ∙ ap chain (sym (eqb-true x id e)))
-        (chain_kept cell cell' chain chain' same_cell (chain x) xs (λ k there. others k (λ same. differs xs k p there out (same ∙ here))) h.2)
+        (chain_kept cell cell' chain chain' same_cell (chain x) xs (λ k there. others k (λ same. member_differs xs k p there out (same ∙ here))) h.2)
     | inr e ↦
         let there = prior_in-other p x xs id e in
         let apart : p ≢ prior_in p (x ∷ xs) id = λ same. false≢true (sym outside ∙ ap (holds (x ∷ xs)) (same ∙ there) ∙ holds-prior x xs id) in
@@ -156,7 +158,7 @@ module _ (cell cell' : ℕ → Bool) (name name' : ℕ → List ℕ) (chain chai
     | inl e ↦
         let h : holds (without id (stands.chains k)) j ≡ true = ap (λ l. holds l j) (sym (at_same k at (without id (stands.chains k)) (stands.chains k) e)) ∙ inside in (
           holds-without id (stands.chains k) j h,
-          differs (without id (stands.chains k)) j id h (holds-without_same id (stands.chains k) (stands.distinct k)),
+          member_differs (without id (stands.chains k)) j id h (holds-without_same id (stands.chains k) (stands.distinct k)),
         )
     | inr ne ↦
         let h : holds (stands.chains k) j ≡ true = ap (λ l. holds l j) (sym (at_other k at (without id (stands.chains k)) (stands.chains k) ne)) ∙ inside in

@@ -3,7 +3,8 @@ use Rattle.std.proofs.Common.{◌≡◌, ◌≢◌, ◌+◌, ◌-◌, ◌≤◌,
 use Rattle.std.specs.FinMap.{get, insert, remove}
 use Rattle.std.specs.Prelude.{slice_index, slice_set}
 use Rattle.std.proofs.lemmas.Bool.{cases_Bool, cond-false, cond-true, eqb-false, eqb-true}
-use Rattle.name_index.specs.Chain.{AreCells, holds, ids_from, prior_in, prior_of}
+use Rattle.name_index.specs.Chain.{AreCells, ids_from, prior_in, prior_of}
+use Rattle.odb_base.specs.Ids.{holds}
 use Rattle.name_index.specs.Hash.{bucket_at}
 use Rattle.name_index.specs.Index.{Index, Stands}
 use Rattle.name_index.specs.Names.{HasId, Names}

@@ -6,14 +6,15 @@ use Rattle.std.specs.Cmp.Lexicographic.{slice_cmp}
 use Rattle.std.specs.Ordering.{nat_cmp}
 use Rattle.std.specs.Prelude.{slice_index}
 use Rattle.std.proofs.lemmas.Bool.{eq-eqb, eqb-true, false≢true, false_from_ne_true, or_cases, or_left, or_right}
-use Rattle.name_index.specs.Chain.{IsDistinct, holds, ids_from}
+use Rattle.name_index.specs.Chain.{ids_from}
+use Rattle.odb_base.specs.Ids.{IsDistinct, holds}
 use Rattle.name_index.specs.Gathered.{AreIds}
 use Rattle.name_index.specs.Hash.{bucket_at}
 use Rattle.name_index.specs.Index.{Index, Stands, names_in, names_of}
 use Rattle.name_index.specs.Names.{Names}
 use Rattle.name_index.proofs.Buckets.{bucket_at-lt, chain_cells, chains-are}
 use Rattle.name_index.proofs.Maps.{cases_name, get-insert_other, get-insert_same, not_None, same_Some, same_names}
-use Rattle.name_index.proofs.Refilling.{holds-append}
+use Rattle.odb_base.proofs.Ids.{holds-append}
 
 -- two lists without repeats and without a common identifier make one
 distinct_join : (xs ys : List ℕ) → IsDistinct xs → IsDistinct ys → ((id : ℕ) → holds xs id ≡ true → holds ys id ≡ false) → IsDistinct (xs ++ ys)

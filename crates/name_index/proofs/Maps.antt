@@ -9,7 +9,7 @@ use Rattle.std.specs.declared.cmp.Ordering.{Ordering}
 use Rattle.std.specs.declared.cmp.Ordering.TheVariants.{Less, Equal, Greater}
 use Rattle.std.proofs.lemmas.Bool.{cases_Bool, eq-eqb, false≢true, or_left, or_right}
 use Rattle.std.proofs.lemmas.Cmp.{nat_list_cmp_total}
-use Rattle.name_index.specs.Chain.{IsDistinct, holds}
+use Rattle.odb_base.specs.Ids.{IsDistinct, holds}
 use Rattle.name_index.specs.Names.{Names}
 
 abbrev order : List ℕ → List ℕ → Ordering

@@ -5,9 +5,10 @@ use Rattle.std.specs.List.{AllByRecursion}
 use Rattle.std.specs.Ordering.{nat_cmp}
 use Rattle.std.specs.Cmp.Lexicographic.{slice_cmp}
 use Rattle.std.specs.Prelude.{slice_index, slice_set}
-use Rattle.std.proofs.lemmas.Bool.{cases_Bool, eq-eqb, eqb-true, false≢true, false_from_ne_true, or_cases, or_left, or_right}
+use Rattle.std.proofs.lemmas.Bool.{eq-eqb, eqb-true, false≢true, false_from_ne_true, or_cases, or_left, or_right}
 use Rattle.std.proofs.lemmas.List.{take_more}
-use Rattle.name_index.specs.Chain.{IsDistinct, holds}
+use Rattle.odb_base.specs.Ids.{IsDistinct, holds}
+use Rattle.odb_base.proofs.Ids.{holds-append}
 use Rattle.name_index.specs.Gathered.{AreIds}
 use Rattle.name_index.specs.Hash.{bucket_at}
 use Rattle.name_index.specs.Index.{Stands}
@@ -16,13 +17,6 @@ use Rattle.name_index.specs.Rechained.{Rechained, with_chains}
 use Rattle.name_index.proofs.Buckets.{stands_none}
 use Rattle.name_index.proofs.Effects.{add_stands}
 use Rattle.name_index.proofs.Maps.{cases_name, get-insert_other, get-insert_same, not_None, same_Some}
-
-pub holds-append : (xs ys : List ℕ) (id : ℕ) → holds (xs ++ ys) id ≡ (holds xs id || holds ys id)
-holds-append [] ys id = refl
-holds-append (x ∷ xs) ys id = elim (cases_Bool (eqb x id)) [
-  | inl e ↦ rw e refl
-  | inr e ↦ rw e (holds-append xs ys id)
-]
 
 -- the identifier at a place is in the list, and not before that place
 pub holds-at : (ids : List ℕ) (i : ℕ) → i < length ids → holds ids (get_or ids i 0) ≡ true

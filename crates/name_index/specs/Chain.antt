@@ -1,15 +1,6 @@
 -- Chains of identifiers: each leads to the next, and the last to 0.
-use Rattle.std.specs.Prelude.{◌≡◌, ◌==◌, Bool, List, [], ◌∷◌, ℕ, zero, suc, IsTrue, if◌then◌else◌, false, true}
-use Rattle.std.specs.List.{list_any}
-
--- the identifier is in the list
-abbrev pub holds : List ℕ → ℕ → Bool
-holds ids id = list_any (λ x. x == id) ids
-
--- no identifier stands twice in the list
-abbrev pub IsDistinct : List ℕ → Type 0
-IsDistinct [] = Unit {0}
-IsDistinct (id ∷ ids) = (holds ids id ≡ false) × IsDistinct ids
+use Rattle.std.specs.Prelude.{◌≡◌, ◌==◌, Bool, List, [], ◌∷◌, ℕ, zero, suc, IsTrue, if◌then◌else◌, true}
+use Rattle.odb_base.specs.Ids.{holds}
 
 -- each identifier of the list names a cell
 abbrev pub AreCells : (ℕ → Bool) → List ℕ → Type 0
@@ -34,8 +25,3 @@ prior_in prior (x ∷ xs) id = if x == id then prior else prior_in x xs id
 -- what stands before an identifier in a chain of at most so many, 0 where it is the first
 abbrev pub prior_of : (ℕ → ℕ) → ℕ → ℕ → ℕ → ℕ
 prior_of chain most first id = prior_in 0 (ids_from chain most first) id
-
--- the list without an identifier
-abbrev pub without : ℕ → List ℕ → List ℕ
-without id [] = []
-without id (x ∷ xs) = if x == id then xs else x ∷ without id xs

@@ -1,7 +1,7 @@
 -- The identifiers of a map, gathered in a list.
 use Rattle.std.specs.Prelude.{◌≡◌, Bool, List, ℕ, Some, true}
 use Rattle.std.specs.FinMap.{get}
-use Rattle.name_index.specs.Chain.{IsDistinct, holds}
+use Rattle.odb_base.specs.Ids.{IsDistinct, holds}
 use Rattle.name_index.specs.Names.{Names}
 
 -- the list has just the identifiers of the map, each once; each names a cell with its name

@@ -2,7 +2,8 @@
 use Rattle.std.specs.Prelude.{◌≡◌, ◌-◌, ◌<◌, Bool, List, [], ◌∷◌, ℕ, Some, true, length, slice_index}
 use Rattle.std.specs.FinMap.{empty, get, insert, len}
 use Rattle.std.specs.List.{flat_map}
-use Rattle.name_index.specs.Chain.{IsChain, IsDistinct, holds, ids_from}
+use Rattle.name_index.specs.Chain.{IsChain, ids_from}
+use Rattle.odb_base.specs.Ids.{IsDistinct, holds}
 use Rattle.name_index.specs.Hash.{bucket_at}
 use Rattle.name_index.specs.Names.{Names}
 

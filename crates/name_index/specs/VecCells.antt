@@ -70,7 +70,7 @@ chain_of-others cells zero other next is ne = refl
 chain_of-others cells (suc place) zero next is ne = refl
 chain_of-others cells (suc place) (suc other) next is ne =
     ap (λ (c : Cell). c.1)
-        (get_or-set_other cells place other ((get_or cells place no_cell).0, next) no_cell (λ e. ne (ap suc e)))
+    (get_or-set_other cells place other ((get_or cells place no_cell).0, next) no_cell (λ e. ne (ap suc e)))
 
 -- the map that an index has over the cells
 abbrev pub held_names : List Cell → Index → Names

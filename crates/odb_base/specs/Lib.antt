@@ -1,3 +1,4 @@
 pub mod EcoState
+pub mod Ids
 pub mod Kind
 pub mod Name

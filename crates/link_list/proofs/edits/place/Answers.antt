@@ -1,5 +1,5 @@
 use Rattle.std.proofs.Common.{IsTrue}
-use Rattle.link_list.specs.Ids.{holds}
+use Rattle.odb_base.specs.Ids.{holds}
 use Rattle.link_list.proofs.Changes.{leave_before}
 use Rattle.link_list.proofs.Linking.{member_is_cell}
 use Rattle.link_list.proofs.Members.{split_at}
