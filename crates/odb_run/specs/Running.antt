@@ -86,6 +86,12 @@ pub record Finishes (before now : Option (List ℕ)) (run : Running) (refused : 
   pub replies : Grows before now (to_come run [])
   pub refusal : refused ≡ to_refuse run []
 
+-- nothing is left of the script or of the replies, and this says whether one was a refusal
+pub record IsOver (run : Running) (refused : Bool) : Type 0 where
+  pub line : run.line ≡ []
+  pub unwritten : run.unwritten ≡ []
+  pub refusal : refused ≡ run.refused
+
 -- the unfinished line, where there is one, was the last
 pub record EndsLast (old new : Running) : Type 0 where
   pub line : new.line ≡ []

@@ -45,7 +45,7 @@ impl Model for Run {
 }
 
 impl Run {
-    ghost use Rattle.odb_run.specs.Running.{EndsLast, Finishes, Goes, HasOutCause, WritesSome, first_run, replied, to_come};
+    ghost use Rattle.odb_run.specs.Running.{EndsLast, Finishes, Goes, HasOutCause, IsOver, WritesSome, first_run, replied, to_come};
 
     /// A run that has taken nothing of its script, over the empty database.
     pub fn new(alloc: Global) -> Run
@@ -69,6 +69,7 @@ impl Run {
     ) -> Result<bool, Stop>
         requires { IsTrue (K.ready out.old) }
         ensures ok { IfOk result (λ refused. Finishes (K.held out.old) (K.held out.new) self.old refused) }
+        ensures over { IfOk result (λ refused. IsOver self.new refused) }
         ensures err { OnErr result (GrowsByPrefix (K.held out.old) (K.held out.new) (to_come self.old [])) }
         ensures cause { HasOutCause (K.faults out.old) (K.faults out.new) result }
     {
