@@ -44,6 +44,7 @@ impl Window {
         })
     }
 
+    /// The bytes at hand, at most [`CAPACITY`] of them.
     pub fn bytes(&self) -> &[u8]
         ensures value { result.now ≡ self.now }
         ensures short { length result.now ≤ CAPACITY }

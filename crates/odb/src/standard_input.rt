@@ -12,6 +12,7 @@ pub struct StandardInput<R: Read> {
 }
 
 impl<R: Read> StandardInput<R> {
+    /// The stream behind this reader, without a fault so far.
     pub fn new(reader: R) -> Self {
         StandardInput { reader, faults: 0 }
     }

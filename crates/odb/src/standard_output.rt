@@ -12,6 +12,7 @@ pub struct StandardOutput<W: Write> {
 }
 
 impl<W: Write> StandardOutput<W> {
+    /// The stream behind this writer, without a fault so far.
     pub fn new(writer: W) -> Self {
         StandardOutput { writer, faults: 0 }
     }

@@ -143,6 +143,7 @@ impl Name {
         }
     }
 
+    /// The bytes of the name, 1 to [`NAME_LIMIT`] of them.
     #[tactic(auto, using(crate::proofs::Names::name_is_short))]
     pub fn bytes(&self) -> &[u8]
         ensures value { result.now ≡ self.now }

@@ -25,6 +25,7 @@ impl Text {
         })
     }
 
+    /// The bytes of the text.
     pub fn bytes(&self) -> &[u8]
         ensures { result.now ≡ self.now }
     {

@@ -45,6 +45,7 @@ impl MemorySink {
         }
     }
 
+    /// The bytes that were written, in order.
     pub fn bytes(&self) -> &[u8]
         ensures { result.now ≡ self.now.held }
     {

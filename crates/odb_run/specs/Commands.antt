@@ -46,8 +46,8 @@ unfoldable pub request_of : List ℕ → Request
 request_of line = asked (words_of line)
 
 -- The call answered this; or it answered that there is no memory, which says nothing.
-abbrev pub Answers : Request → Request → Type 0
-Answers (Err fault.Memory) request = ⊤
-Answers (Err fault.UnknownCommand) request = request ≡ Err fault.UnknownCommand
-Answers (Err fault.BadWords) request = request ≡ Err fault.BadWords
-Answers (Ok asked) request = request ≡ Ok asked
+abbrev pub IsRequest : Request → Request → Type 0
+IsRequest (Err fault.Memory) request = ⊤
+IsRequest (Err fault.UnknownCommand) request = request ≡ Err fault.UnknownCommand
+IsRequest (Err fault.BadWords) request = request ≡ Err fault.BadWords
+IsRequest (Ok asked) request = request ≡ Ok asked

@@ -1,5 +1,5 @@
 ghost use Rattle.std.specs.Prelude.{◌≡◌, ◌==◌, slice_index};
-ghost use Rattle.odb_run.specs.Commands.{Answers, bare, named, new_net_of, request_of, save_of};
+ghost use Rattle.odb_run.specs.Commands.{IsRequest, bare, named, new_net_of, request_of, save_of};
 ghost use Rattle.odb_run.specs.Words.{IsOnlyWord, words_of};
 
 use crate::command_words::{Command, LineFault};
@@ -12,7 +12,7 @@ use std::alloc::Global;
 /// for nothing.
 #[tactic(auto, unfolding(crate::specs::Commands::request_of))]
 pub fn command(alloc: Global, line: &[u8]) -> Result<Option<Command>, LineFault>
-    ensures { Answers result (request_of line.now) }
+    ensures { IsRequest result (request_of line.now) }
 {
     let Some((word, words)) = next_word(line) else {
         return Ok(None);
@@ -30,7 +30,7 @@ fn is_comment(word: &[u8]) -> bool
 }
 
 fn named_command(alloc: Global, word: &[u8], words: &[u8]) -> Result<Option<Command>, LineFault>
-    ensures { Answers result (named word.now (words_of words.now)) }
+    ensures { IsRequest result (named word.now (words_of words.now)) }
 {
     if word == b"new_net".as_slice() {
         return new_net(alloc, words);
@@ -48,7 +48,7 @@ fn named_command(alloc: Global, word: &[u8], words: &[u8]) -> Result<Option<Comm
 }
 
 fn new_net(alloc: Global, words: &[u8]) -> Result<Option<Command>, LineFault>
-    ensures { Answers result (new_net_of (words_of words.now)) }
+    ensures { IsRequest result (new_net_of (words_of words.now)) }
 {
     let Some(name) = only_word(words) else {
         return Err(LineFault::BadWords);
@@ -59,7 +59,7 @@ fn new_net(alloc: Global, words: &[u8]) -> Result<Option<Command>, LineFault>
 }
 
 fn save(words: &[u8]) -> Result<Option<Command>, LineFault>
-    ensures { Answers result (save_of (words_of words.now)) }
+    ensures { IsRequest result (save_of (words_of words.now)) }
 {
     let Some(target) = only_word(words) else {
         return Err(LineFault::BadWords);
@@ -72,7 +72,7 @@ fn save(words: &[u8]) -> Result<Option<Command>, LineFault>
 }
 
 fn bare_command(command: Command, words: &[u8]) -> Result<Option<Command>, LineFault>
-    ensures { Answers result (bare command (words_of words.now)) }
+    ensures { IsRequest result (bare command (words_of words.now)) }
 {
     match next_word(words) {
         None => Ok(Some(command)),

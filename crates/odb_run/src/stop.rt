@@ -9,13 +9,18 @@ use std::alloc::AllocError;
 /// What ends a run before its script has ended.
 #[derive(Clone, Copy, Debug, PartialEq, Eq)]
 pub enum Stop {
+    /// Reading the script failed.
     ScriptFault,
+    /// Writing the replies failed.
     OutFault,
+    /// The script has more than 2^30 bytes.
     ScriptTooLong,
+    /// There is no memory to go on.
     Memory,
 }
 
 impl Stop {
+    /// The status of a run that stopped so.
     pub fn status(self) -> Status
         ensures { result ≡ status_of self }
     {

@@ -70,6 +70,7 @@ impl<T> SlotPool<T> {
         ensures within { length self.now.table.slots ≤ self.now.cap }
         ensures bounds { IsSpareBounded self.now }
     {
+        // No count of slots is above the cap, which has 32 bits: so the proof reads it.
         let _cap = self.cap;
         self.slots.len() as u32
     }
@@ -95,6 +96,7 @@ impl<T> SlotPool<T> {
         ensures count { result ≡ live_count self.now.table }
         ensures others { result + length self.now.table.free ≡ length self.now.table.slots }
     {
+        // No count of slots is above the cap, which has 32 bits: so the proof reads it.
         let _cap = self.cap;
         (self.slots.len() - self.free.len()) as u32
     }
@@ -112,6 +114,7 @@ impl<T> SlotPool<T> {
         ensures within { k < takes_left self.now → result ≤ self.now.cap }
         ensures fits { k < takes_left self.now → result < 2 ^ 32 }
     {
+        // No count of slots is above the cap, which has 32 bits: so the proof reads it.
         let _cap = self.cap;
         self.id_after(k)
     }
