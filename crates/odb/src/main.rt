@@ -8,6 +8,7 @@ use odb_base::Text;
 use odb_run::{Status, odb_main};
 use standard_input::StandardInput;
 use standard_output::StandardOutput;
+use std::io::ErrorKind;
 use std::process::ExitCode;
 use std::rt::Env;
 use std::{env, io};
@@ -21,12 +22,21 @@ fn main(rt: HostRuntime) -> ExitCode {
 }
 
 fn run<R: Env + Input + Print + AllocGlobal>(rt: &R) -> Status {
-    let Ok(words) = words(rt) else {
-        return Status::Memory;
+    let words = match words(rt) {
+        Ok(words) => words,
+        Err(fault) => return status_without_words(fault.kind()),
     };
     let mut script = StandardInput::new(rt.reader());
     let mut out = StandardOutput::new(io::writer(rt));
     odb_main(rt.alloc(), &words, &mut script, &mut out)
+}
+
+// The status where the words can't be had. One that isn't UTF-8 is on no lawful command line.
+fn status_without_words(kind: ErrorKind) -> Status {
+    match kind {
+        ErrorKind::OutOfMemory => Status::Memory,
+        _ => Status::Usage,
+    }
 }
 
 // The words behind the program's name.
