@@ -1,10 +1,10 @@
-pub mod Windows
+pub mod AtHand
+pub mod Between
+pub mod Counted
+pub mod Decimals
+pub mod Ended
 pub mod Places
 pub mod Runs
-pub mod Telling
-pub mod Ended
-pub mod Between
-pub mod AtHand
-pub mod Decimals
-pub mod Counted
 pub mod Spaced
+pub mod Telling
+pub mod Windows

@@ -1,8 +1,8 @@
-pub mod Told
-pub mod Reading
-pub mod Window
 pub mod Cause
-pub mod Input
-pub mod Words
 pub mod Decimal
+pub mod Input
 pub mod Laws
+pub mod Reading
+pub mod Told
+pub mod Window
+pub mod Words

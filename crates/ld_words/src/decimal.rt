@@ -5,7 +5,7 @@ ghost use Rattle.ld_words.specs.Decimal.{has_sign, is_digit, is_negative, is_poi
 use thiserror::Error;
 
 /// The greatest coordinate; its negative is the least one.
-const COORDINATE_LIMIT: u128 = 2_000_000_000;
+const COORDINATE_LIMIT: u128 = odb_base::COORDINATE_LIMIT as u128;
 
 /// The greatest number of digits in a decimal.
 const DIGIT_LIMIT: usize = 30;

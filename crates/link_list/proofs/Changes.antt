@@ -3,11 +3,12 @@ use Rattle.std.proofs.Common.{◌≡◌, ◌≢◌, Bool, true, false, cond, eqb
 use Rattle.std.proofs.lemmas.Bool.{cases_Bool, eqb-false, eq-eqb, ne_eqb, false≢true, false_from_ne_true, or_left, or_parts, or_right}
 use Rattle.link_list.specs.declared.link.Link.{Link}
 use Rattle.link_list.specs.declared.link.Head.{Head}
-use Rattle.link_list.specs.Ids.{AreApart, after, before, first}
-use Rattle.odb_base.specs.Ids.{holds, without}
+use Rattle.link_list.specs.Ids.{before}
+use Rattle.odb_base.specs.Ids.{AreApart, after, first, holds, without}
 use Rattle.link_list.specs.Links.{joined, linked_between, linked_in, linked_out, with_after, with_before}
 use Rattle.link_list.specs.Standing.{AreLinked, NamesCell, Stands, last_or, named, number}
-use Rattle.link_list.proofs.Members.{Parts, Place, Split, after-split, before-split, distinct_in, distinct_out, first_in, holds-last, last_in, parts_of, without-split}
+use Rattle.odb_base.proofs.Splits.{Parts, Split, after-split, distinct_in, distinct_out, parts_of, without-split}
+use Rattle.link_list.proofs.Members.{Place, before-split, first_in, holds-last, last_in}
 use Rattle.odb_base.proofs.Ids.{holds-append, member_differs}
 use Rattle.link_list.proofs.Linking.{linked_back, linked_first, linked_front, linked_join, linked_kept, linked_last, member_is_cell}
 

@@ -2,7 +2,8 @@
 use Rattle.std.proofs.Common.{◌≡◌, eqb, List, ℕ, refl, ◌∙◌, inl, inr}
 use Rattle.std.proofs.lemmas.Bool.{cases_Bool}
 use Rattle.link_list.specs.declared.link.Link.{Link}
-use Rattle.link_list.specs.Ids.{after, before}
+use Rattle.odb_base.specs.Ids.{after}
+use Rattle.link_list.specs.Ids.{before}
 use Rattle.link_list.specs.Links.{linked_in, linked_out, with_after, with_before}
 use Rattle.link_list.specs.Standing.{number}
 

@@ -1,7 +1,7 @@
-pub mod Members
-pub mod Linking
 pub mod Changes
-pub mod Walking
-pub mod Reading
 pub mod Keeping
+pub mod Linking
+pub mod Members
+pub mod Reading
 pub mod Vectors
+pub mod Walking

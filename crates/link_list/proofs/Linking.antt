@@ -3,8 +3,7 @@ use Rattle.std.proofs.Common.{◌≡◌, ◌≢◌, Bool, true, eqb, List, [], �
 use Rattle.std.specs.Option.{unwrap_or}
 use Rattle.std.proofs.lemmas.Bool.{cases_Bool, eqb-true, eq-eqb, false≢true}
 use Rattle.link_list.specs.declared.link.Link.{Link}
-use Rattle.link_list.specs.Ids.{first}
-use Rattle.odb_base.specs.Ids.{IsDistinct, holds}
+use Rattle.odb_base.specs.Ids.{IsDistinct, first, holds}
 use Rattle.link_list.specs.Standing.{AreLinked, last_or, number}
 use Rattle.link_list.proofs.Members.{holds-last}
 use Rattle.odb_base.proofs.Ids.{member_differs}

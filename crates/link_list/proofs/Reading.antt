@@ -3,28 +3,11 @@ use Rattle.std.proofs.Common.{◌≡◌, ◌≢◌, ◌≤◌, Bool, true, false
 use Rattle.std.proofs.lemmas.Bool.{cases_Bool, eq-eqb, false≢true, false_from_ne_true, or_left, or_right}
 use Rattle.link_list.specs.declared.link.Head.{Head}
 use Rattle.link_list.specs.declared.link.Link.{Link}
-use Rattle.link_list.specs.Ids.{after, first, placed}
-use Rattle.odb_base.specs.Ids.{IsDistinct, holds, without}
+use Rattle.odb_base.specs.Ids.{IsDistinct, after, first, holds, placed, without}
 use Rattle.link_list.specs.Standing.{AreLinked, Stands, members_from, number}
 use Rattle.link_list.proofs.Linking.{member_is_cell}
-use Rattle.link_list.proofs.Members.{Parts, Split, after-split, distinct_out, parts_of, placed_before-split, split_at, without-split}
+use Rattle.odb_base.proofs.Splits.{Parts, Split, after-split, distinct_out, parts_of, placed_before-split, split_at, without-split}
 use Rattle.odb_base.proofs.Ids.{holds-append, member_differs}
-
--- a member back in its place between two parts
-back_between : (front back : List ℕ) (id : ℕ) → Parts front (id ∷ back) → placed id (first back) (front ++ back) ≡ front ++ id ∷ back
-back_between front [] id parts = ap (λ l. l ++ id ∷ []) (append-nil front)
-back_between front (y ∷ ys) id parts =
-    placed_before-split front ys id y (false_from_ne_true (holds front y) (λ both. false≢true (sym (parts.apart y both) ∙ or_right (eqb id y) (holds (y ∷ ys) y) (or_left (eqb y y) (holds ys y) (eq-eqb y y refl)))))
-
-pub back_in_place : (ids : List ℕ) (id : ℕ) → IsDistinct ids → holds ids id ≡ true → placed id (after ids id) (without id ids) ≡ ids
-back_in_place ids id distinct inside =
-    let s = split_at id ids inside in
-    let parts = parts_of s.front (id ∷ s.back) (rw s.is at distinct) in
-    ap (λ l. placed id (after l id) (without id l)) s.is
-    ∙ ap (λ o. placed id o (without id (s.front ++ id ∷ s.back))) (after-split s.front s.back id s.apart)
-    ∙ ap (placed id (first s.back)) (without-split s.front s.back id s.apart)
-    ∙ back_between s.front s.back id parts
-    ∙ sym s.is
 
 -- what two parts hold, they hold with an identifier between them
 holds_between : (front back : List ℕ) (id k : ℕ) → holds (front ++ back) k ≡ true → holds (front ++ id ∷ back) k ≡ true

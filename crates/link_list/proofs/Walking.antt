@@ -1,10 +1,9 @@
 -- A walk along a list to its last member.
 use Rattle.std.proofs.Common.{◌≡◌, ◌≢◌, ◌<◌, true, false, cond, eqb, List, [], ◌∷◌, ◌++◌, ℕ, length, refl, sym, ap, ◌∙◌, inl, inr, arith}
 use Rattle.std.proofs.lemmas.Bool.{cases_Bool, eq-eqb, false≢true, false_from_ne_true, or_left, or_parts}
-use Rattle.link_list.specs.Ids.{first}
-use Rattle.odb_base.specs.Ids.{IsDistinct, holds}
+use Rattle.odb_base.specs.Ids.{IsDistinct, first, holds}
 use Rattle.link_list.specs.Standing.{last_or, number}
-use Rattle.link_list.proofs.Members.{Split, parts_of}
+use Rattle.odb_base.proofs.Splits.{Split, parts_of}
 
 -- the part of a list that begins with an identifier
 abbrev pub from : ℕ → List ℕ → List ℕ

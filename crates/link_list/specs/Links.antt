@@ -1,7 +1,8 @@
 -- Which links an entry into a list and a leaving set, and to what.
 use Rattle.std.specs.Prelude.{◌==◌, List, ℕ, if◌then◌else◌}
 use Rattle.link_list.specs.declared.link.Link.{Link}
-use Rattle.link_list.specs.Ids.{after, before}
+use Rattle.odb_base.specs.Ids.{after}
+use Rattle.link_list.specs.Ids.{before}
 use Rattle.link_list.specs.Standing.{number}
 
 module _ {Cells : Type 0} (with_link : Cells → ℕ → Link → Cells) (link_of : Cells → ℕ → Link) where

@@ -3,8 +3,8 @@ use Rattle.std.specs.Prelude.{◌≡◌, ◌≢◌, ◌==◌, Bool, List, [], �
 use Rattle.std.specs.Option.{unwrap_or}
 use Rattle.link_list.specs.declared.link.Head.{Head}
 use Rattle.link_list.specs.declared.link.Link.{Link}
-use Rattle.link_list.specs.Ids.{AreApart, before, first}
-use Rattle.odb_base.specs.Ids.{IsDistinct}
+use Rattle.link_list.specs.Ids.{before}
+use Rattle.odb_base.specs.Ids.{AreApart, IsDistinct, first}
 
 -- the number that a link or a head has for an identifier: 0 for none
 abbrev pub number : Option ℕ → ℕ

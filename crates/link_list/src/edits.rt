@@ -1,6 +1,5 @@
 ghost use Rattle.std.specs.Prelude.{◌≡◌, ◌==◌, ◌+◌, ◌≤◌, if◌then◌else◌, ◌∷◌, List, ℕ, false, IfSome, IsTrue};
-ghost use Rattle.link_list.specs.Ids.{after, placed};
-ghost use Rattle.odb_base.specs.Ids.{holds, without};
+ghost use Rattle.odb_base.specs.Ids.{after, holds, placed, without};
 ghost use Rattle.link_list.specs.Links.{linked_in, linked_out, with_after, with_before};
 ghost use Rattle.link_list.specs.Standing.{NamesCell, OthersStand, Stands, last_or, left_of, named as named_by};
 

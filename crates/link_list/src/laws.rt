@@ -2,8 +2,7 @@
 // nothing.
 
 ghost use Rattle.std.specs.Prelude.{◌≡◌, ◌≤◌, List, ℕ, true};
-ghost use Rattle.link_list.specs.Ids.{after, placed};
-ghost use Rattle.odb_base.specs.Ids.{IsDistinct, holds, without};
+ghost use Rattle.odb_base.specs.Ids.{IsDistinct, after, holds, placed, without};
 ghost use Rattle.link_list.specs.Standing.{Stands, members_from};
 ghost use Rattle.link_list.specs.declared.link.Head.{Head as head};
 

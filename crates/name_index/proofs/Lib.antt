@@ -1,9 +1,9 @@
-pub mod Chains
-pub mod Maps
 pub mod Buckets
+pub mod Chains
 pub mod Dropping
 pub mod Effects
 pub mod Gathering
-pub mod Refilling
 pub mod Keeping
+pub mod Maps
+pub mod Refilling
 pub mod Vectors

@@ -1,2 +1,4 @@
+pub mod Finding
 pub mod Ids
 pub mod Names
+pub mod Splits

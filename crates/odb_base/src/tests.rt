@@ -37,11 +37,62 @@ fn names_and_their_first_faults(rt: HostRuntime) -> Result<(), Fail> {
 }
 
 #[test]
-fn texts_and_words(rt: HostRuntime) -> Result<(), Fail> {
-    let text = Text::new(rt.alloc(), b"\"any bytes\" \x00")?;
+fn texts_and_lists(rt: HostRuntime) -> Result<(), Fail> {
+    let alloc = rt.alloc();
+    let text = Text::new(alloc, b"\"any bytes\" \x00")?;
     assert!(rt; text.try_clone()?.bytes() == b"\"any bytes\" \x00".as_slice());
-    assert!(rt; Kind::Net.word() == b"net".as_slice());
+    let code = WireCode::from_vec(vec![in alloc; 1, 0, 255]?);
+    assert!(rt; code.try_clone()?.bytes() == [1, 0, 255].as_slice());
     assert!(rt; EcoState::Ended.word() == b"Ended".as_slice());
-    assert_eq!(rt; NetId(3), NetId(3));
+    let mut list = List::new(alloc);
+    list.push(NetId(3))?;
+    list.push(NetId(1))?;
+    let copy = list.try_clone()?;
+    assert!(rt; copy.items() == [NetId(3), NetId(1)].as_slice());
+    assert_eq!(rt; list.into_vec().len(), 2);
     Ok(())
+}
+
+#[test]
+fn codes_and_words(rt: HostRuntime) -> Result<(), Fail> {
+    let orientations: [(u8, &[u8], Orient); 8] = [
+        (0, b"N", Orient::N),
+        (1, b"S", Orient::S),
+        (2, b"W", Orient::W),
+        (3, b"E", Orient::E),
+        (4, b"FN", Orient::FN),
+        (5, b"FS", Orient::FS),
+        (6, b"FW", Orient::FW),
+        (7, b"FE", Orient::FE),
+    ];
+    for (code, word, orientation) in orientations.iter() {
+        assert_eq!(rt; orientation.code(), *code);
+        assert!(rt; orientation.word() == *word);
+        assert_eq!(rt; Orient::from_code(*code), Some(*orientation));
+        assert_eq!(rt; Orient::from_word(*word), Some(*orientation));
+    }
+    assert_eq!(rt; Orient::from_code(8), None);
+    assert_eq!(rt; Orient::from_word(b"n"), None);
+    assert_eq!(rt; Kind::from_code(0), None);
+    assert_eq!(rt; Kind::from_word(b"iterm"), Some(Kind::ITerm));
+    assert_eq!(rt;
+        Direction::from_word(b"TRISTATE").map(|d| d.code()),
+        Some(3)
+    );
+    assert_eq!(rt; Usage::from_word(b"-"), Some(Usage::None));
+    assert_eq!(rt; Usage::from_word(b"TIEOFF").map(|u| u.code()), Some(8));
+    assert_eq!(rt;
+        Owner::from_word(b"COMPONENTPIN").map(|o| o.code()),
+        Some(8)
+    );
+    assert_eq!(rt; RowForm::from_code(2), Some(RowForm::DoStep));
+    Ok(())
+}
+
+#[test]
+fn turned_sizes(rt: HostRuntime) {
+    assert_eq!(rt; oriented_size(Orient::FS, 10, 20), (10, 20));
+    assert_eq!(rt; oriented_size(Orient::FE, 10, 20), (20, 10));
+    assert_eq!(rt; Placement::UNPLACED.orientation, Orient::N);
+    assert_eq!(rt; Point { x: 1, y: -1 }, Point { x: 1, y: -1 });
 }

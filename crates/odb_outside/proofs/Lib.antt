@@ -1,3 +1,3 @@
-pub mod Pieces
 pub mod Growing
+pub mod Pieces
 pub mod Schedules

@@ -2,7 +2,7 @@
 use Rattle.std.specs.Prelude.{List, [], ◌∷◌, ℕ, Option, None, Some, Result, Ok, Err, if◌then◌else◌}
 use Rattle.slot_pool.specs.Table.{next_id, taken}
 use Rattle.odb_base.specs.Name.{name_fault}
-use Rattle.odb_base.specs.declared.kind.Kind.TheVariants as kind
+use Rattle.odb_base.specs.declared.codes.kind.Kind.TheVariants as kind
 use Rattle.odb_base.specs.declared.name.NameFault.{NameFault}
 use Rattle.odb_run.specs.declared.edit_words.Edit.{Edit}
 use Rattle.odb_run.specs.declared.edit_words.Edit.TheVariants as edit

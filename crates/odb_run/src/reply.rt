@@ -4,7 +4,7 @@ ghost use Rattle.odb_run.specs.Replies.{fault_text, line_end, number_text, ok_te
 use crate::command_words::LineFault;
 use crate::edit_words::{Outcome, Refusal};
 use itoa::Buffer;
-use odb_base::EcoState;
+use odb_base::{EcoState, Worded};
 use std::alloc::{AllocError, Global};
 
 /// Appends `ok`.

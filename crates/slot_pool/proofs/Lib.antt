@@ -1,5 +1,5 @@
 pub mod Counts
-pub mod Tables
-pub mod Keeping
 pub mod GoodTables
+pub mod Keeping
 pub mod Records
+pub mod Tables

@@ -1,4 +1,4 @@
-use Rattle.link_list.specs.Ids.{placed}
+use Rattle.odb_base.specs.Ids.{placed}
 use Rattle.link_list.specs.Standing.{left_of, number}
 use Rattle.link_list.proofs.Changes.{enter_cells, enter_left, enter_list, enter_named, enter_others, enter_right}
 use Rattle.link_list.proofs.Members.{place_of}

@@ -1,6 +1,6 @@
 use Rattle.link_list.proofs.Changes.{after-is, zero_outside}
 use Rattle.link_list.proofs.Linking.{member_is_cell}
-use Rattle.link_list.proofs.Members.{split_at}
+use Rattle.odb_base.proofs.Splits.{split_at}
 use Rattle.link_list.proofs.Walking.{step_of, walk_end, walk_first, walk_last, walk_member, walk_shorter}
 use Rattle.link_list.proofs.edits.last.Goals as goal
 

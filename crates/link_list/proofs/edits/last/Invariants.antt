@@ -1,6 +1,6 @@
 -- What is left of the list begins with the next number.
 use Rattle.std.proofs.Common.{◌≡◌, length}
-use Rattle.link_list.specs.Ids.{first}
+use Rattle.odb_base.specs.Ids.{first}
 use Rattle.link_list.specs.Standing.{last_or, number}
 use Rattle.link_list.proofs.Walking.{from}
 use Rattle.link_list.proofs.edits.last.Given as goal

@@ -2,7 +2,7 @@ use Rattle.std.proofs.Common.{IsTrue}
 use Rattle.odb_base.specs.Ids.{holds}
 use Rattle.link_list.proofs.Changes.{leave_before}
 use Rattle.link_list.proofs.Linking.{member_is_cell}
-use Rattle.link_list.proofs.Members.{split_at}
+use Rattle.odb_base.proofs.Splits.{split_at}
 use Rattle.link_list.proofs.edits.place.Goals as goal
 
 pub link-requires : goal.link-requires

@@ -1,7 +1,7 @@
 use Rattle.std.proofs.Common.{◌∙◌}
 use Rattle.link_list.proofs.Changes.{leave_cells, leave_left, leave_list, leave_named, leave_next, leave_others, leave_right}
 use Rattle.link_list.proofs.Linking.{member_is_cell}
-use Rattle.link_list.proofs.Members.{split_at}
+use Rattle.odb_base.proofs.Splits.{split_at}
 use Rattle.link_list.proofs.edits.unlink.Goals as goal
 
 pub link-link-requires : goal.link-link-requires

@@ -1,0 +1,20 @@
+-- Coordinates and turned sizes.
+use Rattle.std.specs.Prelude.{ℤ, pos, ◌≤ℤ◌, neg_ℤ}
+use Rattle.odb_base.specs.declared.codes.orient.Orient.{Orient}
+use Rattle.odb_base.specs.declared.codes.orient.Orient.TheVariants as orient
+use Rattle.odb_base.specs.declared.geometry.TheConstants.{COORDINATE_LIMIT}
+
+-- width and height of an object of these once it is turned
+abbrev pub oriented : Orient → ℤ → ℤ → ℤ × ℤ
+oriented orient.N w h = (w, h)
+oriented orient.S w h = (w, h)
+oriented orient.FN w h = (w, h)
+oriented orient.FS w h = (w, h)
+oriented orient.W w h = (h, w)
+oriented orient.E w h = (h, w)
+oriented orient.FW w h = (h, w)
+oriented orient.FE w h = (h, w)
+
+-- the number is within the limit of coordinates
+abbrev pub IsCoordinate : ℤ → Type 0
+IsCoordinate n = (neg_ℤ (pos COORDINATE_LIMIT) ≤ℤ n) × (n ≤ℤ pos COORDINATE_LIMIT)
