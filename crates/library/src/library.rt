@@ -1,0 +1,94 @@
+ghost use Rattle.std.specs.Prelude.{◌≡◌, ◌+◌, ◌<◌, ◌≤◌, ◌++◌, ◌∷◌, [], None, IfOk, OnErr, OnOk, length, take};
+ghost use Rattle.std.specs.Option.{option_copied, option_map};
+ghost use Rattle.library.specs.Masters.{HasDistinctNames, find_master, master_at};
+
+use crate::master::Master;
+use indexmap::IndexMap;
+use odb_base::MasterId;
+use std::alloc::{AllocError, Global};
+use std::marker::Model;
+
+/// The greatest number of masters in a library.
+pub const MASTER_LIMIT: u32 = 1_000_000;
+
+/// The masters by id and by name. Contracts see the list of them in the order of their entry; the id of a
+/// master is its place from 1. No two have one name, and there are at most [`MASTER_LIMIT`].
+#[derive(Drop)]
+pub struct Library {
+    // Under the bytes of its name.
+    masters: IndexMap<Vec<u8>, Master>,
+}
+
+impl Model for Library {
+    ghost use Rattle.std.specs.Prelude.{List};
+    ghost use Rattle.library.specs.declared.master.Master.{Master};
+
+    ghost Value = { List Master };
+
+    ghost use Rattle.library.specs.Kept.{IsKept, masters_of};
+
+    ghost view = { λ l. masters_of l.masters.entries };
+
+    ghost invariant = { λ l. IsKept l.masters.entries };
+}
+
+impl Library {
+    /// A library without masters. It takes no memory.
+    pub fn new(alloc: Global) -> Library
+        ensures { result ≡ [] }
+    {
+        Library {
+            masters: IndexMap::new(alloc),
+        }
+    }
+
+    /// How many masters there are.
+    pub fn count(&self) -> u32
+        ensures count { result ≡ length self.now }
+        ensures limit { result ≤ MASTER_LIMIT }
+        ensures distinct { HasDistinctNames self.now }
+    {
+        self.masters.len() as u32
+    }
+
+    /// The master of this id, `None` where no master has it.
+    pub fn master(&self, id: MasterId) -> Option<&Master>
+        ensures { option_copied result ≡ master_at self.now id.0 }
+    {
+        let place = id.0.checked_sub(1)?;
+        let (_, master) = self.masters.get_index(place as usize)?;
+        Some(master)
+    }
+
+    /// The id of the master of this name, `None` where no master has it.
+    pub fn find_master(&self, name: &[u8]) -> Option<MasterId>
+        ensures { option_map (λ id. id.0) result ≡ find_master self.now name.now }
+    {
+        let place = self.masters.get_index_of(name)?;
+        Some(MasterId(place as u32 + 1))
+    }
+
+    /// Puts a master last, and gives its id. No master may have its name, and there must be fewer than
+    /// [`MASTER_LIMIT`]. A refusal leaves the library as it was, and the master is dropped.
+    pub fn add_master(&mut self, master: Master) -> Result<MasterId, AllocError>
+        requires new { find_master self.old master.name ≡ None }
+        requires room { length self.old < MASTER_LIMIT }
+        ensures ok { OnOk result (self.new ≡ self.old ++ master ∷ []) }
+        ensures id { IfOk result (λ id. id.0 ≡ length self.old + 1) }
+        ensures err { OnErr result (self.new ≡ self.old) }
+    {
+        let name = master.name.bytes().to_vec(*self.masters.allocator())?;
+        match self.masters.insert(name, master) {
+            Ok(_) => Ok(MasterId(self.masters.len() as u32)),
+            Err(_) => Err(AllocError),
+        }
+    }
+
+    /// Keeps so many first masters, of which there must be at least so many. It takes no memory.
+    pub fn cut(&mut self, masters: u32)
+        requires { masters ≤ length self.old }
+        ensures { self.new ≡ take masters self.old }
+    {
+        self.masters.truncate(masters as usize);
+    }
+}
