@@ -1,0 +1,23 @@
+-- Numbers of digits, one digit after another.
+use Rattle.std.proofs.Common.{◌≡◌, ℕ, ◌+◌, ◌-◌, ◌*◌, ◌≤◌, ◌<◌, true, false, List, [], ◌∷◌, None, length, drop, get_or, leb, fold, refl, arith}
+use Rattle.std.proofs.lemmas.Bool.{and_right, lt-leb}
+use Rattle.std.specs.List.{list_all}
+use Rattle.odb_base.specs.declared.geometry.TheConstants.{COORDINATE_LIMIT}
+use Rattle.wires.specs.PathWords.{is_digit, number_with, with_digit}
+
+-- more digits make no number less
+fold_more : (n : ℕ) (digits : List ℕ) → n ≤ fold with_digit n digits
+fold_more n [] = omega arith
+fold_more n (b ∷ digits) = omega (arith, fold_more (n * 10 + (b - 48)) digits)
+
+-- a number beyond the limit stays so
+pub beyond : (n : ℕ) (digits : List ℕ) → COORDINATE_LIMIT < n → number_with n digits ≡ None
+beyond n digits far =
+    let more = fold_more n digits in
+    let no : leb (fold with_digit n digits) COORDINATE_LIMIT ≡ false = lt-leb (fold with_digit n digits) COORDINATE_LIMIT (omega arith) in
+    rw (and_right (list_all is_digit digits) (leb (fold with_digit n digits) COORDINATE_LIMIT) no) refl
+
+-- one more digit goes on the number
+pub digit_on : (n : ℕ) (digits : List ℕ) → 0 < length digits → is_digit (get_or digits 0 0) ≡ true → number_with (n * 10 + (get_or digits 0 0 - 48)) (drop 1 digits) ≡ number_with n digits
+digit_on n [] some digit = absurd (omega (arith, some))
+digit_on n (b ∷ digits) some digit = rw digit refl

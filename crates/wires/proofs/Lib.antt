@@ -1,0 +1,12 @@
+pub mod OneField
+pub mod OnePiece
+pub mod Ranges
+pub mod PieceBack
+pub mod AllPieces
+pub mod PathPieces
+pub mod WholeCodes
+pub mod Parted
+pub mod Digits
+pub mod Grouped
+pub mod Decoded
+pub mod Accepted

@@ -1,0 +1,35 @@
+use Rattle.std.proofs.Common.{sym, ap, ◌∙◌}
+use Rattle.std.specs.Prelude.{is_some}
+use Rattle.std.proofs.lemmas.Bool.{or_right}
+use Rattle.wires.specs.Gathered.{gathered}
+use Rattle.wires.specs.Paths.{with_pieces}
+use Rattle.wires.specs.Pieces.{piece_of}
+use Rattle.wires.specs.Reading.{is_start, items_left}
+use Rattle.wires.proofs.PathPieces.{has_place_from, tapered_from, with_more}
+use Rattle.wires.proofs.decoding.decode_within.Goals as goal
+
+pub with-requires-clause-place : goal.with-requires-clause-place
+with-requires-clause-place c =
+    let given = rw c.in-Some.is at c.in_ok-item.ensures.value in
+    has_place_from _ c.elements.elements.due (is_some c.elements.paths.last) (piece_of c.in-Some.item) given.1 c.elements.invariant.last
+
+pub with-requires-clause-taper : goal.with-requires-clause-taper
+with-requires-clause-taper c =
+    let given = rw c.in-Some.is at c.in_ok-item.ensures.value in
+    tapered_from _ (piece_of c.in-Some.item) given.1.fits
+
+pub elements-preserved : goal.elements-preserved
+elements-preserved c =
+    let given = rw c.in-Some.is at c.in_ok-item.ensures.value in
+    let limits = c.args.limits in
+    let front = gathered c.elements.paths in
+    let piece = piece_of c.in-Some.item in
+    let rest = items_left limits c.next.new.self.due c.next.new.self.input in
+    record {
+      read =
+          c.elements.invariant.read
+          ∙ ap (with_pieces front) given.0
+          ∙ with_more front piece rest
+          ∙ ap (λ f. with_pieces f rest) (sym c.in_ok-paths.ensures.gathered);
+      last = or_right (is_start c.next.new.self.due) (is_some c.in_ok-paths.paths.last) c.in_ok-paths.ensures.last;
+    }
