@@ -1,0 +1,19 @@
+use super::*;
+use odb_base::Kind;
+use std::test::Fail;
+
+#[test]
+fn a_new_header_and_kinds(rt: HostRuntime) -> Result<(), Fail> {
+    let header = Header::new(rt.alloc())?;
+    assert!(rt; header.design.bytes().is_empty());
+    assert!(rt; header.divider.bytes() == b"/".as_slice());
+    assert!(rt; header.bus.bytes() == b"[]".as_slice());
+    assert!(rt; header.vias.items().is_empty());
+    let terminal = ITermRec {
+        inst: 1,
+        index: 0,
+        net: 0,
+    };
+    assert_eq!(rt; Record::ITerm(terminal).kind(), Kind::ITerm);
+    Ok(())
+}
