@@ -1,0 +1,284 @@
+-- What a line of the script asks for.
+use Rattle.std.specs.Prelude.{◌==◌, List, [], ◌∷◌, ℕ, ℤ, pos, Option, None, Some, Result, Ok, Err, if◌then◌else◌, codes, slice_index}
+use Rattle.std.specs.Str.{bytes_eq}
+use Rattle.edit_words.specs.declared.edit.Edit.TheVariants as edit
+use Rattle.library.specs.declared.master.Master.{Master}
+use Rattle.library.specs.declared.mterm.MTerm.{MTerm}
+use Rattle.odb_base.specs.declared.codes.direction.Direction.{Direction}
+use Rattle.odb_base.specs.declared.codes.usage.Usage.TheVariants as usage
+use Rattle.script_words.specs.declared.command_words.Command.{Command}
+use Rattle.script_words.specs.declared.command_words.Command.TheVariants as command
+use Rattle.script_words.specs.declared.fault.LineFault.{LineFault}
+use Rattle.script_words.specs.declared.fault.LineFault.TheVariants as fault
+use Rattle.script_words.specs.Answers.{IsAnswer}
+use Rattle.script_words.specs.Forms.{◌>>=◌, Taken, Words, direction_at, end_at, id_at, kind_at, name_at, named_kind_at, number_at, orient_at, size_at, status_at, usage_at, word_at}
+use Rattle.script_words.specs.Words.{words_of}
+
+-- a command, no command in a blank line or a comment, or why the line is none
+abbrev pub Request : Type 0
+Request = Result (Option Command) LineFault
+
+-- what the words behind a command's word ask for
+abbrev pub Line : Type 0
+Line = Words → Result Command LineFault
+
+-- The lines of edits. Their names are any words.
+
+-- `new_inst NAME MASTER`
+unfoldable pub new_inst : Line
+new_inst words = do
+  (name, words) ← word_at words
+  (master, words) ← word_at words
+  done ← end_at words
+  Ok (command.Edit (edit.NewInst name master))
+
+-- `new_net NAME`
+unfoldable pub new_net : Line
+new_net words = do
+  (name, words) ← word_at words
+  done ← end_at words
+  Ok (command.Edit (edit.NewNet name))
+
+-- the identifier that ends a line, or nothing
+unfoldable pub last_id : Words → Result (Option ℕ) LineFault
+last_id [] = Ok None
+last_id (word ∷ words) = do
+  (id, words) ← id_at (word ∷ words)
+  done ← end_at words
+  Ok (Some id)
+
+-- `new_bterm NAME [NET]`
+unfoldable pub new_bterm : Line
+new_bterm words = do
+  (name, words) ← word_at words
+  net ← last_id words
+  Ok (command.Edit (edit.NewBTerm name net))
+
+-- `destroy KIND ID`
+unfoldable pub destroy : Line
+destroy words = do
+  (kind, words) ← kind_at words
+  (id, words) ← id_at words
+  done ← end_at words
+  Ok (command.Edit (edit.Destroy kind id))
+
+-- `rename KIND ID NAME`
+unfoldable pub rename : Line
+rename words = do
+  (kind, words) ← kind_at words
+  (id, words) ← id_at words
+  (name, words) ← word_at words
+  done ← end_at words
+  Ok (command.Edit (edit.Rename kind id name))
+
+-- `swap INST MASTER`
+unfoldable pub swap : Line
+swap words = do
+  (inst, words) ← id_at words
+  (master, words) ← word_at words
+  done ← end_at words
+  Ok (command.Edit (edit.Swap inst master))
+
+-- `place KIND ID STATUS X Y ORIENT`
+unfoldable pub place : Line
+place words = do
+  (kind, words) ← kind_at words
+  (id, words) ← id_at words
+  (status, words) ← status_at words
+  (x, words) ← number_at words
+  (y, words) ← number_at words
+  (orientation, words) ← orient_at words
+  done ← end_at words
+  Ok (command.Edit (edit.Place kind id status x y orientation))
+
+-- `set_use KIND ID USE|-`
+unfoldable pub set_use : Line
+set_use words = do
+  (kind, words) ← kind_at words
+  (id, words) ← id_at words
+  (usage, words) ← usage_at words
+  done ← end_at words
+  Ok (command.Edit (edit.SetUse kind id usage))
+
+-- `set_dir BTERM DIR|-`
+unfoldable pub set_dir : Line
+set_dir words = do
+  (bterm, words) ← id_at words
+  (direction, words) ← direction_at words
+  done ← end_at words
+  Ok (command.Edit (edit.SetDir bterm direction))
+
+-- `make_special NET`
+unfoldable pub make_special : Line
+make_special words = do
+  (net, words) ← id_at words
+  done ← end_at words
+  Ok (command.Edit (edit.MakeSpecial net))
+
+-- `join KIND ID NET`
+unfoldable pub join : Line
+join words = do
+  (kind, words) ← kind_at words
+  (id, words) ← id_at words
+  (net, words) ← id_at words
+  done ← end_at words
+  Ok (command.Edit (edit.Join kind id net))
+
+-- `part KIND ID`
+unfoldable pub part : Line
+part words = do
+  (kind, words) ← kind_at words
+  (id, words) ← id_at words
+  done ← end_at words
+  Ok (command.Edit (edit.Part kind id))
+
+-- The line of a master. Its names are lawful.
+
+-- a terminal of no use and without shapes
+abbrev pub plain_terminal : List ℕ → Direction → MTerm
+plain_terminal name direction = record { name = name; direction = direction; usage = usage.None; shapes = [] }
+
+-- `TERM DIR|-`
+unfoldable pub terminal_at : Words → Taken MTerm
+terminal_at words = do
+  (name, words) ← name_at words
+  (direction, words) ← direction_at words
+  Ok (plain_terminal name direction, words)
+
+-- `[TERM DIR|-]...` to the end of the line
+unfoldable pub terminals : Words → Result (List MTerm) LineFault
+terminals [] = Ok []
+terminals (name ∷ []) = Err fault.BadWords
+terminals (name ∷ direction ∷ words) = do
+  (first, rest) ← terminal_at (name ∷ direction ∷ words)
+  others ← terminals words
+  Ok (first ∷ others)
+
+-- a master of which no more is said than its name, its size and its terminals
+abbrev pub plain_master : List ℕ → ℤ → ℤ → List MTerm → Master
+plain_master name width height terminals = record {
+  name = name;
+  class = [];
+  origin_x = pos 0;
+  origin_y = pos 0;
+  width = width;
+  height = height;
+  symmetry = 0;
+  site = 0;
+  foreign = [];
+  terminals = terminals;
+  obstructions = [];
+}
+
+-- `master NAME W H [TERM DIR|-]...`
+unfoldable pub master : Line
+master words = do
+  (name, words) ← name_at words
+  (width, words) ← size_at words
+  (height, words) ← size_at words
+  terminals ← terminals words
+  Ok (command.Master (plain_master name width height terminals))
+
+-- The lines of queries.
+
+-- `find KIND NAME`
+unfoldable pub find : Line
+find words = do
+  (kind, words) ← named_kind_at words
+  (name, words) ← word_at words
+  done ← end_at words
+  Ok (command.Find kind name)
+
+-- `list KIND`
+unfoldable pub list : Line
+list words = do
+  (kind, words) ← kind_at words
+  done ← end_at words
+  Ok (command.List kind)
+
+-- `free KIND`
+unfoldable pub free : Line
+free words = do
+  (kind, words) ← kind_at words
+  done ← end_at words
+  Ok (command.Free kind)
+
+-- `terms NET`
+unfoldable pub terms : Line
+terms words = do
+  (net, words) ← id_at words
+  done ← end_at words
+  Ok (command.Terms net)
+
+-- The other lines.
+
+-- `-`
+unfoldable pub dash : Words → Result Words LineFault
+dash [] = Err fault.BadWords
+dash (word ∷ words) = if bytes_eq word (codes "-") then Ok words else Err fault.BadWords
+
+-- `save -`
+unfoldable pub save : Line
+save words = do
+  words ← dash words
+  done ← end_at words
+  Ok command.SaveShown
+
+-- a command without arguments, as `counts`
+unfoldable pub bare : Command → Line
+bare c words = do
+  done ← end_at words
+  Ok c
+
+-- The table of commands, in three parts: each goes on with the one above it.
+
+-- queries, saving and the ECO
+unfoldable pub asking : List ℕ → Line
+asking word words =
+    if bytes_eq word (codes "find") then find words
+    else if bytes_eq word (codes "list") then list words
+    else if bytes_eq word (codes "free") then free words
+    else if bytes_eq word (codes "counts") then bare command.Counts words
+    else if bytes_eq word (codes "terms") then terms words
+    else if bytes_eq word (codes "save") then save words
+    else if bytes_eq word (codes "eco_begin") then bare command.EcoBegin words
+    else if bytes_eq word (codes "eco_undo") then bare command.EcoUndo words
+    else Err fault.UnknownCommand
+
+-- changes of objects that stand
+unfoldable pub changing : List ℕ → Line
+changing word words =
+    if bytes_eq word (codes "rename") then rename words
+    else if bytes_eq word (codes "swap") then swap words
+    else if bytes_eq word (codes "place") then place words
+    else if bytes_eq word (codes "set_use") then set_use words
+    else if bytes_eq word (codes "set_dir") then set_dir words
+    else if bytes_eq word (codes "make_special") then make_special words
+    else if bytes_eq word (codes "join") then join words
+    else if bytes_eq word (codes "part") then part words
+    else asking word words
+
+-- what makes and removes objects, and masters
+unfoldable pub named : List ℕ → Line
+named word words =
+    if bytes_eq word (codes "new_inst") then new_inst words
+    else if bytes_eq word (codes "new_net") then new_net words
+    else if bytes_eq word (codes "new_bterm") then new_bterm words
+    else if bytes_eq word (codes "destroy") then destroy words
+    else if bytes_eq word (codes "master") then master words
+    else changing word words
+
+-- by the words of the line; a first word that begins with `#` makes it a comment
+abbrev pub asked : Words → Request
+asked [] = Ok None
+asked (word ∷ words) = if slice_index word 0 == 35 then Ok None else do
+  c ← named word words
+  Ok (Some c)
+
+-- what a line of the script asks for
+unfoldable pub request_of : List ℕ → Request
+request_of line = asked (words_of line)
+
+-- The call answered this; or it answered that there is no memory, which says nothing.
+abbrev pub IsRequest : Request → Request → Type 0
+IsRequest result request = IsAnswer result request
