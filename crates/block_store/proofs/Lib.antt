@@ -1,0 +1,12 @@
+pub mod Changed
+pub mod Databases
+pub mod Held
+pub mod Joined
+pub mod LawfulMasters
+pub mod Limits
+pub mod Naming
+pub mod Places
+pub mod Shown
+pub mod Slots
+pub mod Tables
+pub mod Upward

@@ -1,0 +1,12 @@
+use Rattle.std.proofs.Common.{◌≡◌, ◌<◌, None, length, ap, sym, ◌∙◌, subst}
+use Rattle.library.specs.Masters.{find_master}
+use Rattle.library.specs.declared.library.TheConstants.{MASTER_LIMIT}
+use Rattle.block_store.proofs.Databases.{sound_with_master}
+use Rattle.block_store.proofs.database.Database.add_master.Goals as goal
+
+pub invariant_of-self-2 : goal.invariant_of-self-2
+invariant_of-self-2 c =
+    let same = ap (λ d. d.library) c.self.view_is in
+    let new = rw (← same) at c.requires.new in
+    let room = rw (← same) at c.requires.room in
+    rw (c.in_ok-id.ensures.ok) (sound_with_master _ c.args.master c.self.invariant c.requires.lawful new room)

@@ -1,0 +1,6 @@
+use Rattle.block_store.proofs.Databases.{sound_database}
+use Rattle.block_store.proofs.database.Database.new.Goals as goal
+
+pub invariant_of-result : goal.invariant_of-result
+invariant_of-result c =
+    rw (c.new.ensures, c.new-2.ensures, c.in_ok-new.ensures.block, c.in_ok-new.ensures.cap) (sound_database c.args.cap c.requires)

@@ -1,0 +1,15 @@
+pub mod Alone
+pub mod Block
+pub mod Changes
+pub mod Database
+pub mod Fields
+pub mod FreeIds
+pub mod Lawful
+pub mod Lists
+pub mod Live
+pub mod Moves
+pub mod NameLaws
+pub mod Names
+pub mod Places
+pub mod Sound
+pub mod Store

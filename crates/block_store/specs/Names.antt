@@ -1,0 +1,75 @@
+-- Objects by their names, which are found by looking at each slot.
+use Rattle.std.specs.Prelude.{◌≡◌, ◌≢◌, Bool, false, List, ℕ, Option, None, Some, option_map}
+use Rattle.std.specs.List.{position_from}
+use Rattle.std.specs.Str.{bytes_eq}
+use Rattle.slot_pool.specs.Table.{Table, record_at}
+use Rattle.odb_base.specs.declared.codes.kind.Kind.{Kind}
+use Rattle.odb_base.specs.declared.codes.kind.Kind.TheVariants as kind
+use Rattle.block_store.specs.Block.{Block}
+
+module _ {A : Type 0} where
+  -- the slot has an object of this name
+  abbrev pub is_named : (A → List ℕ) → List ℕ → Option A → Bool
+  is_named name_of name None = false
+  is_named name_of name (Some x) = bytes_eq (name_of x) name
+
+  -- the first identifier in a table whose object has this name
+  abbrev pub find_by : (A → List ℕ) → List ℕ → Table A → Option ℕ
+  find_by name_of name t = position_from (is_named name_of name) 1 t.slots
+
+  -- the name of an object, found in its table
+  abbrev pub name_by : (A → List ℕ) → ℕ → Table A → Option (List ℕ)
+  name_by name_of id t = option_map name_of (record_at t id)
+
+-- the first object of a kind that has this name; none of a kind without names
+abbrev pub find_in : Kind → List ℕ → Block → Option ℕ
+find_in kind.Inst name b = find_by (λ e. e.fields.name) name b.inst
+find_in kind.ITerm name b = None
+find_in kind.Net name b = find_by (λ e. e.fields.name) name b.net
+find_in kind.BTerm name b = find_by (λ e. e.fields.name) name b.bterm
+find_in kind.Pin name b = None
+find_in kind.Row name b = find_by (λ e. e.fields.name) name b.row
+find_in kind.Track name b = None
+find_in kind.Wire name b = None
+find_in kind.Blockage name b = None
+find_in kind.Region name b = find_by (λ e. e.fields.name) name b.region
+find_in kind.Group name b = find_by (λ e. e.fields.name) name b.group
+find_in kind.Prop name b = None
+
+-- the name of an object; none of a kind without names
+abbrev pub name_in : Kind → ℕ → Block → Option (List ℕ)
+name_in kind.Inst id b = name_by (λ e. e.fields.name) id b.inst
+name_in kind.ITerm id b = None
+name_in kind.Net id b = name_by (λ e. e.fields.name) id b.net
+name_in kind.BTerm id b = name_by (λ e. e.fields.name) id b.bterm
+name_in kind.Pin id b = None
+name_in kind.Row id b = name_by (λ e. e.fields.name) id b.row
+name_in kind.Track id b = None
+name_in kind.Wire id b = None
+name_in kind.Blockage id b = None
+name_in kind.Region id b = name_by (λ e. e.fields.name) id b.region
+name_in kind.Group id b = name_by (λ e. e.fields.name) id b.group
+name_in kind.Prop id b = None
+
+-- objects of the kind have names
+abbrev pub HasNames : Kind → Type 0
+HasNames kind.Inst = Unit {0}
+HasNames kind.ITerm = ⊥
+HasNames kind.Net = Unit {0}
+HasNames kind.BTerm = Unit {0}
+HasNames kind.Pin = ⊥
+HasNames kind.Row = Unit {0}
+HasNames kind.Track = ⊥
+HasNames kind.Wire = ⊥
+HasNames kind.Blockage = ⊥
+HasNames kind.Region = Unit {0}
+HasNames kind.Group = Unit {0}
+HasNames kind.Prop = ⊥
+
+-- no object of the kind has the name
+abbrev pub IsFree : Kind → List ℕ → Block → Type 0
+IsFree k name b = (id : ℕ) → name_in k id b ≢ Some name
+
+-- no other object of the kind has the name
+abbrev pub IsFreeBut : Kind → ℕ → List ℕ → Block → Type 0
+IsFreeBut k id name b = (other : ℕ) → name_in k other b ≡ Some name → other ≡ id
