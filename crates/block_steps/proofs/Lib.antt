@@ -1,0 +1,5 @@
+pub mod Asked
+pub mod Judged
+pub mod Owed
+pub mod Rooms
+pub mod Soundness

@@ -1,0 +1,117 @@
+-- What the calls ask that take a step back, of the block that the step led to.
+use Rattle.std.proofs.Common.{◌≡◌, ◌≢◌, true, List, [], ◌∷◌, ℕ, Option, Some, None, IsTrue, refl, sym, ap, ◌∙◌, subst}
+use Rattle.std.specs.Option.{IfSome, option_map}
+use Rattle.slot_pool.specs.Table.{is_live, record_at}
+use Rattle.odb_base.specs.Ids.{holds}
+use Rattle.odb_base.specs.declared.codes.kind.Kind.{Kind}
+use Rattle.odb_base.specs.declared.codes.kind.Kind.TheVariants as kind
+use Rattle.odb_base.specs.declared.codes.direction.Direction.{Direction}
+use Rattle.odb_base.specs.declared.codes.usage.Usage.{Usage}
+use Rattle.odb_base.specs.declared.geometry.Placement.{Placement}
+use Rattle.block_records.specs.declared.record.Record.{Record}
+use Rattle.block_records.specs.declared.record.Record.TheVariants as rec
+use Rattle.edit_words.specs.declared.memo.Memo.{Memo}
+use Rattle.edit_words.specs.declared.memo.Memo.TheVariants as memo
+use Rattle.edit_words.specs.Tag.{tag_of}
+use Rattle.edit_words.specs.declared.step.Step.{Step}
+use Rattle.edit_words.specs.declared.step.Step.TheVariants as step
+use Rattle.edit_words.specs.declared.tag.Tag.{Tag}
+use Rattle.edit_words.specs.declared.tag.Tag.TheVariants as tag
+use Rattle.tech.specs.Technology.{Technology}
+use Rattle.library.specs.declared.master.Master.{Master}
+use Rattle.block_store.specs.Alone.{IsAlone, IsNew}
+use Rattle.block_store.specs.Block.{Block, free_in, live_in, record_of}
+use Rattle.block_store.specs.Fields.{HasPlace, HasUsage, special_in}
+use Rattle.block_store.specs.Moves.{CanUntakeIn}
+use Rattle.block_store.specs.Names.{HasNames, IsFreeBut}
+use Rattle.block_store.specs.Sound.{IsSound, net_terms}
+use Rattle.block_store.proofs.Joined.{shown_by}
+use Rattle.block_store.proofs.Shown.{live_by, live_record}
+use Rattle.steps_net.specs.Back.{Came, IsLedTo, grew_of, grown_of, name_moved, next_moved, record_moved, removed, terminals_moved}
+use Rattle.steps_net.specs.Can.{CanDel}
+use Rattle.steps_net.specs.Do.{deleted}
+use Rattle.steps_net.specs.Terms.{CanReturn, IsJoinable, IsJoined}
+use Rattle.steps_net.proofs.InstancesGone.{can_return}
+use Rattle.steps_net.proofs.InstancesMade.{came_new_inst}
+use Rattle.steps_net.proofs.Joining.{joinable_after, joined_after, next_joined}
+use Rattle.steps_net.proofs.Making.{bterm_live, bterm_ungiven, bterm_untaken, net_ungiven, net_untaken}
+use Rattle.steps_net.proofs.Setting.{freed_name, live_directed, live_placed, live_renamed, live_special, live_used}
+use Rattle.steps_net.proofs.SwapsMade.{can_exchange_back}
+use Rattle.block_steps.specs.Owes.{IsAskedBack, IsNamedBack, IsRejoined, IsSwappedBack, IsTakenBack, Owes}
+
+module _ (tech : Technology) (library : List Master) (cap : ℕ) where
+  asked_back : (k : Kind) (id : ℕ) (d : Block) → IsSound tech library cap d → CanDel d k id → IsAskedBack (record_moved (removed (record_of k id d))) (deleted k id d)
+  asked_back kind.Inst id d sound can =
+      let r = live_record d.inst id can.0 in
+      subst (λ o. IsAskedBack (record_moved (removed (option_map (λ e. rec.Inst e.fields) o))) (deleted kind.Inst id d)) (sym r.is) (can_return tech library cap d id sound can r.value r.is)
+  asked_back kind.Net id d sound can =
+      let r = live_record d.net id can.0 in
+      subst (λ o. IsAskedBack (record_moved (removed (option_map (λ e. rec.Net e.fields) o))) (deleted kind.Net id d)) (sym r.is) (net_ungiven tech library cap d id r.value sound r.is)
+  asked_back kind.BTerm id d sound can =
+      let r = live_record d.bterm id (bterm_live tech library cap d id can) in
+      subst (λ o. IsAskedBack (record_moved (removed (option_map (λ e. rec.BTerm e.fields) o))) (deleted kind.BTerm id d)) (sym r.is) (bterm_ungiven tech library cap d id r.value sound r.is)
+  asked_back other id d sound can = absurd can
+
+-- from the step that led to the block, and what it moved out
+module _ (tech : Technology) (library : List Master) (cap : ℕ) (d : Block) (m : Memo) (c : Block) where
+  net_by : (id : ℕ) (name : List ℕ) → Came tech library cap d (step.NewNet id name) m c → IsTakenBack kind.Net id m c
+  net_by id name came = let is = net_untaken tech library cap d id name came.sound came.can in rw (came.memo, came.after) (record { can = is.0; alone = is.1 })
+
+  bterm_by : (id : ℕ) (name : List ℕ) → Came tech library cap d (step.NewBTerm id name) m c → IsTakenBack kind.BTerm id m c
+  bterm_by id name came = let is = bterm_untaken tech library cap d id name came.sound came.can in rw (came.memo, came.after) (record { can = is.0; alone = is.1 })
+
+  del_by : (k : Kind) (id : ℕ) → Came tech library cap d (step.Del k id) m c → IsAskedBack (record_moved m) c
+  del_by k id came = rw (came.memo, came.after) (asked_back tech library cap k id d came.sound came.can)
+
+  rename_by : (k : Kind) (id : ℕ) (name : List ℕ) → Came tech library cap d (step.Rename k id name) m c → IsNamedBack k id m c
+  rename_by k id name came =
+      rw (came.memo, came.after) (record {
+        live = live_renamed d k id name came.can.live;
+        kind = came.can.kind;
+        memo = refl;
+        free = freed_name tech library cap d k id name came.sound came.can;
+      })
+
+  swap_by : (inst master : ℕ) → Came tech library cap d (step.Swap inst master) m c → IsSwappedBack inst m c
+  swap_by inst master came =
+      rw (came.memo, came.after) (record { memo = refl; can = can_exchange_back tech library cap d inst master came.sound came.can })
+
+  place_by : (k : Kind) (id : ℕ) (place : Placement) → Came tech library cap d (step.Place k id place) m c → IsTrue (live_in k id c) × HasPlace k
+  place_by k id place came = rw came.after (live_placed d k id place came.can.live, came.can.kind)
+
+  usage_by : (k : Kind) (id : ℕ) (new : Usage) → Came tech library cap d (step.SetUse k id new) m c → IsTrue (live_in k id c) × HasUsage k
+  usage_by k id new came = rw came.after (live_used d k id new came.can.live, came.can.kind)
+
+  direction_by : (id : ℕ) (new : Direction) → Came tech library cap d (step.SetDir id new) m c → IsTrue (is_live c.bterm id)
+  direction_by id new came = rw came.after (live_directed d id new came.can.0)
+
+  special_by : (id : ℕ) → Came tech library cap d (step.MakeSpecial id) m c → IsTrue (is_live c.net id)
+  special_by id came =
+      let r = shown_by (λ e. e.fields.special) (record_at d.net id) _ came.can in
+      rw came.after (live_special d id true (live_by d.net id r.value r.is))
+
+  join_by : (k : Kind) (id net : ℕ) → Came tech library cap d (step.Join k id net) m c → IsJoined k id net c
+  join_by k id net came = rw came.after (joined_after tech library cap d k id net came.sound came.can)
+
+  part_by : (k : Kind) (id net : ℕ) → Came tech library cap d (step.Part k id net) m c → IsRejoined k id net m c
+  part_by k id net came =
+      rw (came.memo, came.after) (record { can = joinable_after tech library cap d k id net came.sound came.can; next = next_joined tech library cap d k id net came.sound came.can })
+
+-- what came from a step meets what its way back asks
+module _ (tech : Technology) (library : List Master) (cap : ℕ) (d : Block) (m : Memo) (c : Block) where
+  owed_by : (s : Step) → Came tech library cap d s m c → Owes (tag_of s) m c
+  owed_by (step.NewInst id name master terminals) came = came_new_inst tech library cap d id name master terminals m c came
+  owed_by (step.NewNet id name) came = net_by tech library cap d m c id name came
+  owed_by (step.NewBTerm id name) came = bterm_by tech library cap d m c id name came
+  owed_by (step.Del k id) came = del_by tech library cap d m c k id came
+  owed_by (step.Rename k id name) came = rename_by tech library cap d m c k id name came
+  owed_by (step.Swap inst master) came = swap_by tech library cap d m c inst master came
+  owed_by (step.Place k id place) came = place_by tech library cap d m c k id place came
+  owed_by (step.SetUse k id new) came = usage_by tech library cap d m c k id new came
+  owed_by (step.SetDir bterm new) came = direction_by tech library cap d m c bterm new came
+  owed_by (step.MakeSpecial net) came = special_by tech library cap d m c net came
+  owed_by (step.Join k id net) came = join_by tech library cap d m c k id net came
+  owed_by (step.Part k id net) came = part_by tech library cap d m c k id net came
+
+pub owed : (tech : Technology) (library : List Master) (cap : ℕ) (t : Tag) (m : Memo) (c : Block) → IsLedTo tech library cap t m c → Owes t m c
+owed tech library cap t m c led = subst (λ u. Owes u m c) led.tag (owed_by tech library cap led.before m c led.step led.came)

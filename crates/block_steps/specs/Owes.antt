@@ -1,0 +1,74 @@
+-- What the way back of a step asks of the block that the step led to. Contracts inside the crate cite it.
+use Rattle.std.specs.Prelude.{◌≡◌, ◌≢◌, [], ℕ, Option, Some, IsTrue}
+use Rattle.std.specs.Option.{IfSome}
+use Rattle.slot_pool.specs.Table.{is_live}
+use Rattle.odb_base.specs.Ids.{holds}
+use Rattle.odb_base.specs.declared.codes.kind.Kind.{Kind}
+use Rattle.odb_base.specs.declared.codes.kind.Kind.TheVariants as kind
+use Rattle.block_records.specs.declared.record.Record.{Record}
+use Rattle.block_records.specs.declared.record.Record.TheVariants as rec
+use Rattle.edit_words.specs.declared.memo.Memo.{Memo}
+use Rattle.edit_words.specs.declared.memo.Memo.TheVariants as memo
+use Rattle.edit_words.specs.declared.tag.Tag.{Tag}
+use Rattle.edit_words.specs.declared.tag.Tag.TheVariants as tag
+use Rattle.block_store.specs.Alone.{IsAlone, IsNew}
+use Rattle.block_store.specs.Block.{Block, free_in, live_in}
+use Rattle.block_store.specs.Fields.{HasPlace, HasUsage}
+use Rattle.block_store.specs.Moves.{CanUntakeIn}
+use Rattle.block_store.specs.Names.{HasNames, IsFreeBut}
+use Rattle.block_store.specs.Sound.{net_terms}
+use Rattle.steps_net.specs.Back.{grew_of, grown_of, master_moved, name_moved, next_moved, record_moved, terminals_moved}
+use Rattle.steps_net.specs.Terms.{CanExchange, CanReturn, CanUnmake, IsJoinable, IsJoined}
+
+-- an object that went can come back: its identifier is free, and its name
+abbrev pub IsAskedBack : Option Record → Block → Type 0
+IsAskedBack (Some (rec.Inst r)) c = CanReturn r c
+IsAskedBack (Some (rec.Net r)) c = (free_in kind.Net c ≢ []) × IsNew (rec.Net r) c
+IsAskedBack (Some (rec.BTerm r)) c = (free_in kind.BTerm c ≢ []) × IsNew (rec.BTerm r) c
+IsAskedBack other c = ⊥
+
+-- a new object can be taken back
+pub record IsTakenBack (k : Kind) (id : ℕ) (m : Memo) (c : Block) : Type 0 where
+  pub can : CanUntakeIn k id (grew_of m) c
+  pub alone : IsAlone k id c
+
+-- an object can get the name that it had
+pub record IsNamedBack (k : Kind) (id : ℕ) (m : Memo) (c : Block) : Type 0 where
+  pub live : IsTrue (live_in k id c)
+  pub kind : HasNames k
+  pub memo : m ≡ memo.Name (name_moved m)
+  pub free : IsFreeBut k id (name_moved m) c
+
+-- an instance can get the master and the terminals that it had
+pub record IsSwappedBack (inst : ℕ) (m : Memo) (c : Block) : Type 0 where
+  pub memo : m ≡ memo.Swapped (master_moved m) (terminals_moved m)
+  pub can : CanExchange inst (terminals_moved m) c
+
+-- a terminal can be joined again, in its place
+pub record IsRejoined (k : Kind) (id net : ℕ) (m : Memo) (c : Block) : Type 0 where
+  pub can : IsJoinable k id net c
+  pub next : IfSome (next_moved m) (λ other. IsTrue (holds (net_terms c net) other))
+
+abbrev pub Owes : Tag → Memo → Block → Type 0
+Owes (tag.NewInst id master) m c = CanUnmake id (grew_of m) (grown_of m) c
+Owes (tag.NewNet id) m c = IsTakenBack kind.Net id m c
+Owes (tag.NewBTerm id) m c = IsTakenBack kind.BTerm id m c
+Owes (tag.Del k id) m c = IsAskedBack (record_moved m) c
+Owes (tag.Rename k id) m c = IsNamedBack k id m c
+Owes (tag.Swap inst) m c = IsSwappedBack inst m c
+Owes (tag.Place k id) m c = IsTrue (live_in k id c) × HasPlace k
+Owes (tag.SetUse k id) m c = IsTrue (live_in k id c) × HasUsage k
+Owes (tag.SetDir bterm) m c = IsTrue (is_live c.bterm bterm)
+Owes (tag.MakeSpecial net) m c = IsTrue (is_live c.net net)
+Owes (tag.Join k id net) m c = IsJoined k id net c
+Owes (tag.Part k id net) m c = IsRejoined k id net m c
+
+-- the step changes a field or a list of an object, other than its name and its terminals
+abbrev pub IsChange : Tag → Type 0
+IsChange (tag.NewInst id master) = ⊥
+IsChange (tag.NewNet id) = ⊥
+IsChange (tag.NewBTerm id) = ⊥
+IsChange (tag.Del k id) = ⊥
+IsChange (tag.Rename k id) = ⊥
+IsChange (tag.Swap inst) = ⊥
+IsChange other = Unit {0}

@@ -1,0 +1,11 @@
+pub mod InstancesChanged
+pub mod InstancesGone
+pub mod InstancesLoops
+pub mod InstancesMade
+pub mod InstancesTerms
+pub mod Joining
+pub mod Making
+pub mod Setting
+pub mod SwapsMade
+pub mod SwapsOrder
+pub mod SwapsPlaces

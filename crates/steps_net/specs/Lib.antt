@@ -1,0 +1,5 @@
+pub mod Back
+pub mod Can
+pub mod Do
+pub mod Room
+pub mod Terms
