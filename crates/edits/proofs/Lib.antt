@@ -1,0 +1,7 @@
+pub mod Destroying
+pub mod Ids
+pub mod Placing
+pub mod Planned
+pub mod Questions
+pub mod Sound
+pub mod Terminals

@@ -1,0 +1,45 @@
+-- What holds of a placement that a plan lets pass.
+use Rattle.std.proofs.Common.{◌≡◌, ◌<◌, ◌≤◌, ◌&&◌, true, ℤ, pos, negsuc, refl, ap, ◌∙◌, arith}
+use Rattle.std.proofs.lemmas.Bool.{and_parts, eqb-true, false≢true, leb-true, ltb-true}
+use Rattle.std.proofs.lemmas.Int.{ints}
+use Rattle.odb_base.specs.Geometry.{IsCoordinate}
+use Rattle.odb_base.specs.declared.codes.orient.Orient.{Orient}
+use Rattle.odb_base.specs.declared.codes.orient.Orient.TheVariants as orient
+use Rattle.odb_base.specs.declared.codes.place_status.PlaceStatus.{PlaceStatus}
+use Rattle.odb_base.specs.declared.codes.place_status.PlaceStatus.TheVariants as status
+use Rattle.odb_base.specs.declared.geometry.TheConstants.{COORDINATE_LIMIT}
+use Rattle.block_store.specs.Sound.{IsPlacement, unplaced}
+use Rattle.edits.specs.Plan.{fits_status, is_coordinate, is_north, is_zero}
+
+pub lawful_coordinate : (n : ℤ) → is_coordinate n ≡ true → IsCoordinate n
+lawful_coordinate (pos n) h =
+    let within : n ≤ COORDINATE_LIMIT = leb-true n COORDINATE_LIMIT h in
+    (omega (arith, ints), omega (arith, ints))
+lawful_coordinate (negsuc n) h =
+    let within : n < COORDINATE_LIMIT = ltb-true n COORDINATE_LIMIT h in
+    (omega (arith, ints), omega (arith, ints))
+
+zero_is : (n : ℤ) → is_zero n ≡ true → n ≡ pos 0
+zero_is (pos n) h = ap pos (eqb-true n 0 h)
+zero_is (negsuc n) h = absurd (false≢true h)
+
+north_is : (orientation : Orient) → is_north orientation ≡ true → orientation ≡ orient.N
+north_is orient.N h = refl
+north_is other h = absurd (false≢true h)
+
+-- who is unplaced stands at 0, 0 and is turned N
+stands : (state : PlaceStatus) (x y : ℤ) (orientation : Orient) → fits_status state x y orientation ≡ true → state ≡ status.Unplaced → record { status = state; x = x; y = y; orientation = orientation } ≡ unplaced
+stands status.Unplaced x y orientation h e =
+    let parts = and_parts (is_zero x && is_zero y) (is_north orientation) h in
+    let zeros = and_parts (is_zero x) (is_zero y) parts.0 in
+    ap (λ n. record { status = status.Unplaced; x = n; y = y; orientation = orientation }) (zero_is x zeros.0)
+    ∙ ap (λ n. record { status = status.Unplaced; x = pos 0; y = n; orientation = orientation }) (zero_is y zeros.1)
+    ∙ ap (λ o. record { status = status.Unplaced; x = pos 0; y = pos 0; orientation = o }) (north_is orientation parts.1)
+stands other x y orientation h e = cc
+
+pub lawful_placement : (state : PlaceStatus) (x y : ℤ) (orientation : Orient) → is_coordinate x ≡ true → is_coordinate y ≡ true → fits_status state x y orientation ≡ true → IsPlacement (record { status = state; x = x; y = y; orientation = orientation })
+lawful_placement state x y orientation along_x along_y fits = record {
+  x = lawful_coordinate x along_x;
+  y = lawful_coordinate y along_y;
+  unplaced = stands state x y orientation fits;
+}
