@@ -1,0 +1,26 @@
+-- The entry of an object: its record, and the lists that the block has for it. Contracts inside the crate cite it.
+use Rattle.std.specs.Prelude.{ℕ}
+use Rattle.block_records.specs.declared.inst.InstRec.{InstRec}
+use Rattle.block_records.specs.declared.net.NetRec.{NetRec}
+use Rattle.block_records.specs.declared.bterm.BTermRec.{BTermRec}
+use Rattle.odb_base.specs.declared.codes.kind.Kind.TheVariants as kind
+use Rattle.block_store.specs.declared.entry.InstEntry.{InstEntry}
+use Rattle.block_store.specs.declared.entry.NetEntry.{NetEntry}
+use Rattle.block_store.specs.declared.entry.BTermEntry.{BTermEntry}
+use Rattle.block_store.specs.declared.list_of.ListOf.TheVariants as list
+use Rattle.block_store.specs.Block.{Block}
+use Rattle.block_store.specs.Lists.{list_at}
+
+abbrev pub inst_entry : ℕ → InstRec → Block → InstEntry
+inst_entry id r b = record { fields = r; props = list_at (list.Props kind.Inst id) b }
+
+abbrev pub net_entry : ℕ → NetRec → Block → NetEntry
+net_entry id r b = record {
+  fields = r;
+  terms = list_at (list.Terms (record { 0 = id })) b;
+  wires = list_at (list.Wires (record { 0 = id })) b;
+  props = list_at (list.Props kind.Net id) b;
+}
+
+abbrev pub bterm_entry : ℕ → BTermRec → Block → BTermEntry
+bterm_entry id r b = record { fields = r; pins = list_at (list.Pins (record { 0 = id })) b }

@@ -1,0 +1,25 @@
+-- What fits the counts of the format, which have 32 bits. Each entry of a sound database does.
+use Rattle.std.specs.Prelude.{◌^◌, ◌<◌, List, ℕ, length}
+use Rattle.block_store.specs.declared.entry.InstEntry.{InstEntry}
+use Rattle.block_store.specs.declared.entry.NetEntry.{NetEntry}
+use Rattle.block_store.specs.declared.entry.BTermEntry.{BTermEntry}
+
+-- a list that a count of 32 bits can tell
+abbrev pub IsShort : {A : Type 0} → List A → Type 0
+IsShort xs = length xs < 2 ^ 32
+
+pub record FitsInst (e : InstEntry) : Type 0 where
+  pub terminals : IsShort e.fields.terminals
+  pub props : IsShort e.props
+  pub kept : IsShort e.fields.kept
+
+pub record FitsNet (e : NetEntry) : Type 0 where
+  pub terms : IsShort e.terms
+  pub wires : IsShort e.wires
+  pub props : IsShort e.props
+  pub kept : IsShort e.fields.kept
+  pub special_kept : IsShort e.fields.special_kept
+
+pub record FitsBTerm (e : BTermEntry) : Type 0 where
+  pub pins : IsShort e.pins
+  pub kept : IsShort e.fields.kept
