@@ -1,6 +1,6 @@
-pub mod Finding
+pub mod Accepting
 pub mod JournalLemmas
 pub mod LineLemmas
+pub mod ReplyTexts
 pub mod Runs
 pub mod Scripts
-pub mod WordLemmas

@@ -4,9 +4,9 @@ use Rattle.std.proofs.lemmas.Bool.{eqb-true}
 use Rattle.std.proofs.Math.Seq.{take-length}
 use Rattle.std.proofs.lemmas.List.{take-append-drop}
 use Rattle.memchr.specs.Find.{IsFirstByte, is_byte}
-use Rattle.odb_run.proofs.WordLemmas.{neither}
+use Rattle.script_words.proofs.WordLemmas.{neither}
 use Rattle.odb_run.specs.Lines.{IsLineEnd, has_line_end, lines_of}
-use Rattle.odb_run.specs.Words.{onto_first}
+use Rattle.script_words.specs.Words.{onto_first}
 
 -- a line, the LF that ends it, and the rest
 pub lines-first : (line rest : List ℕ) → has_line_end line ≡ false → lines_of (line ++ 10 ∷ rest) ≡ line ∷ lines_of rest

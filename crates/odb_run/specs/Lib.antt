@@ -1,15 +1,10 @@
-pub mod Blocks
-pub mod Commands
-pub mod Database
-pub mod Edits
 pub mod Headline
 pub mod Journal
 pub mod Lines
 pub mod Machine
 pub mod Noted
-pub mod Planning
+pub mod Options
+pub mod Parts
 pub mod Replies
 pub mod Running
-pub mod Save
 pub mod Sessions
-pub mod Words

@@ -1,7 +1,7 @@
 -- The lines of a script.
 use Rattle.std.specs.Prelude.{◌≡◌, ◌==◌, Bool, false, List, [], ◌∷◌, ◌++◌, ◌+◌, ℕ, Option, None, Some, drop, take, if◌then◌else◌}
 use Rattle.std.specs.List.{list_any}
-use Rattle.odb_run.specs.Words.{onto_first}
+use Rattle.script_words.specs.Words.{onto_first}
 
 -- Each line ends with LF, which is no part of it. A last line without LF counts where it isn't empty.
 abbrev pub lines_of : List ℕ → List (List ℕ)

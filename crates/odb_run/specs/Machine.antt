@@ -1,19 +1,28 @@
 -- The copying machine. It keeps a whole copy of the database while an ECO stands, and undo puts back that
 -- very copy.
-use Rattle.std.specs.Prelude.{Bool, true, false, ◌||◌, List, [], ◌∷◌, ◌++◌, ℕ, Option, None, Some, Result, Ok, Err, length, option_map}
+use Rattle.std.specs.Prelude.{Bool, true, false, ◌||◌, ◌+◌, List, [], ◌∷◌, ◌++◌, ℕ, Option, None, Some, Result, Ok, Err, if◌then◌else◌, length, nat_lt, option_map}
 use Rattle.odb_base.specs.declared.eco_state.EcoState.{EcoState}
 use Rattle.odb_base.specs.declared.eco_state.EcoState.TheVariants as state
-use Rattle.odb_run.specs.declared.command_words.Command.{Command}
-use Rattle.odb_run.specs.declared.command_words.Command.TheVariants as command
-use Rattle.odb_run.specs.declared.edit_words.Edit.{Edit}
-use Rattle.odb_run.specs.declared.edit_words.Outcome.{Outcome}
-use Rattle.odb_run.specs.declared.edit_words.Refusal.{Refusal}
-use Rattle.odb_run.specs.declared.edit_words.Step.{Step}
-use Rattle.odb_run.specs.Commands.{Request, request_of}
-use Rattle.odb_run.specs.Database.{Database, empty_database}
-use Rattle.odb_run.specs.Edits.{after_steps, made, plan}
-use Rattle.odb_run.specs.Replies.{fault_text, number_text, ok_text, outcome_text, refusal_text, saved_text, wrong_state_text}
-use Rattle.odb_run.specs.Save.{save_bytes}
+use Rattle.library.specs.declared.master.Master.{Master}
+use Rattle.edit_words.specs.declared.edit.Edit.{Edit}
+use Rattle.edit_words.specs.declared.refusal.Refusal.{Refusal}
+use Rattle.edit_words.specs.declared.step.Step.{Step}
+use Rattle.block_store.specs.Database.{Database, empty_database}
+use Rattle.steps_net.specs.Do.{do_all}
+use Rattle.edits.specs.Plan.{made, plan}
+use Rattle.odb_save.specs.Save.{save_bytes}
+use Rattle.reports.specs.Reports.{report_of}
+use Rattle.reports.specs.declared.query.Query.{Query}
+use Rattle.reports.specs.declared.query.Query.TheVariants as query
+use Rattle.reports.specs.declared.query.ReportFault.{ReportFault}
+use Rattle.script_words.specs.Commands.{Request, request_of}
+use Rattle.script_words.specs.declared.command_words.Command.{Command}
+use Rattle.script_words.specs.declared.command_words.Command.TheVariants as command
+use Rattle.odb_run.specs.declared.outcome.Outcome.{Outcome}
+use Rattle.odb_run.specs.declared.run.TheConstants.{LINE_LIMIT}
+use Rattle.odb_run.specs.declared.parts.PartFault.{PartFault}
+use Rattle.odb_run.specs.Parts.{part_fault}
+use Rattle.odb_run.specs.Replies.{fault_text, long_line_text, number_text, ok_text, outcome_text, part_text, refusal_text, report_fault_text, saved_text, wrong_state_text}
 
 -- what stands with an ECO: the copy that was kept, and the steps that were accepted since
 pub record Kept : Type 0 where
@@ -26,7 +35,7 @@ pub record State : Type 0 where
   pub eco : Option Kept
 
 -- no ECO stands, and the database is empty
-abbrev pub start : ℕ → State
+unfoldable pub start : ℕ → State
 start cap = record { database = empty_database cap; eco = None }
 
 abbrev pub eco_state : Option Kept → EcoState
@@ -58,17 +67,46 @@ lone_outcome id = record { id = id; accepted = 1; refused = 0; deep = 0; many = 
 abbrev pub noted : List Step → Kept → Kept
 noted steps kept = record kept { steps = kept.steps ++ steps }
 
+-- the database after steps
+abbrev pub after_steps : List Step → Database → Database
+after_steps steps d = record d { block = do_all d.library steps d.block }
+
 -- the state after steps, which an ECO that stands notes
 abbrev pub after_edit : List Step → State → State
 after_edit steps s = record { database = after_steps steps s.database; eco = option_map (noted steps) s.eco }
 
 abbrev pub edit_answer_by : State → Result (List Step) Refusal → Answer
 edit_answer_by s (Ok steps) = accepted (after_edit steps s) (outcome_text (lone_outcome (made steps)))
-edit_answer_by s (Err refusal) = refused s (refusal_text refusal)
+edit_answer_by s (Err why) = refused s (refusal_text why)
+
+-- the plan of an edit in a state
+abbrev pub plan_in : State → Edit → Result (List Step) Refusal
+plan_in s edit = plan s.database.library s.database.cap s.database.block edit
 
 -- an edit does the steps of its plan, or is refused as its plan is
 unfoldable pub edit_answer : State → Edit → Answer
-edit_answer s edit = edit_answer_by s (plan s.database edit)
+edit_answer s edit = edit_answer_by s (plan_in s edit)
+
+-- the database with one more master
+abbrev pub with_master : Master → Database → Database
+with_master m d = record d { library = d.library ++ m ∷ [] }
+
+abbrev pub master_answer_by : State → Master → Option PartFault → Answer
+master_answer_by s m (Some fault) = refused s (part_text fault)
+master_answer_by s m None = accepted (record s { database = with_master m s.database }) (number_text (length s.database.library + 1))
+
+-- `master` enters a master into the library where no ECO stands
+unfoldable pub master_answer : State → Master → Option Kept → Answer
+master_answer s m None = master_answer_by s m (part_fault s.database m)
+master_answer s m (Some kept) = refused s (wrong_state_text state.Open)
+
+abbrev pub report_answer_by : State → Result (List ℕ) ReportFault → Answer
+report_answer_by s (Ok text) = accepted s text
+report_answer_by s (Err fault) = refused s (report_fault_text fault)
+
+-- a query has the reply of its report
+unfoldable pub report_answer : State → Query → Answer
+report_answer s q = report_answer_by s (report_of s.database q)
 
 -- `eco_begin` keeps a copy of the whole database
 abbrev pub begin_answer : State → Option Kept → Answer
@@ -86,6 +124,12 @@ save_answer s = accepted s (saved_text (save_bytes s.database))
 
 abbrev pub command_answer : State → Command → Answer
 command_answer s (command.Edit edit) = edit_answer s edit
+command_answer s (command.Master m) = master_answer s m s.eco
+command_answer s (command.Find k name) = report_answer s (query.Find k name)
+command_answer s (command.List k) = report_answer s (query.List k)
+command_answer s (command.Free k) = report_answer s (query.Free k)
+command_answer s command.Counts = report_answer s query.Counts
+command_answer s (command.Terms net) = report_answer s (query.Terms net)
 command_answer s command.SaveShown = save_answer s
 command_answer s command.EcoBegin = begin_answer s s.eco
 command_answer s command.EcoUndo = undo_answer s s.eco
@@ -95,9 +139,9 @@ request_answer s (Ok None) = unanswered s
 request_answer s (Ok (Some command)) = command_answer s command
 request_answer s (Err fault) = refused s (fault_text fault)
 
--- the answer to a line
+-- the answer to a line; one that is too long is passed over, be it blank, a comment or a command
 unfoldable pub answer : State → List ℕ → Answer
-answer s line = request_answer s (request_of line)
+answer s line = if nat_lt LINE_LIMIT (length line) then refused s long_line_text else request_answer s (request_of line)
 
 -- the replies to lines, from a state on
 abbrev pub replies : State → List (List ℕ) → List ℕ

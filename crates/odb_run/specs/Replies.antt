@@ -1,21 +1,20 @@
 -- The text of each reply: one line, ended by LF.
-use Rattle.std.specs.Prelude.{List, [], ◌∷◌, ◌++◌, ℕ, codes, decimal, length}
+use Rattle.std.specs.Prelude.{List, [], ◌++◌, ℕ, codes, length}
 use Rattle.odb_base.specs.EcoState.{eco_state_word}
 use Rattle.odb_base.specs.Kind.{kind_word}
+use Rattle.odb_base.specs.declared.codes.kind.Kind.{Kind}
 use Rattle.odb_base.specs.declared.eco_state.EcoState.{EcoState}
-use Rattle.odb_run.specs.declared.command_words.LineFault.{LineFault}
-use Rattle.odb_run.specs.declared.command_words.LineFault.TheVariants as fault
-use Rattle.odb_run.specs.declared.edit_words.Outcome.{Outcome}
-use Rattle.odb_run.specs.declared.edit_words.Refusal.{Refusal}
-use Rattle.odb_run.specs.declared.edit_words.Refusal.TheVariants as refusal
+use Rattle.edit_words.specs.declared.refusal.Refusal.{Refusal}
+use Rattle.edit_words.specs.declared.refusal.Refusal.TheVariants as refusal
+use Rattle.reports.specs.Texts.{line_end, spaced, value}
+use Rattle.reports.specs.declared.query.ReportFault.{ReportFault}
+use Rattle.reports.specs.declared.query.ReportFault.TheVariants as report
+use Rattle.script_words.specs.declared.fault.LineFault.{LineFault}
+use Rattle.script_words.specs.declared.fault.LineFault.TheVariants as fault
+use Rattle.odb_run.specs.declared.outcome.Outcome.{Outcome}
+use Rattle.odb_run.specs.declared.parts.PartFault.{PartFault}
+use Rattle.odb_run.specs.declared.parts.PartFault.TheVariants as part
 use Rattle.hex.specs.Hex.{encode_lower}
-
--- a space and a number
-abbrev pub value : ℕ → List ℕ
-value n = 32 ∷ decimal n
-
-abbrev pub line_end : List ℕ
-line_end = 10 ∷ []
 
 -- `ok`
 unfoldable pub ok_text : List ℕ
@@ -33,11 +32,22 @@ outcome_text o = codes "ok" ++ value o.id ++ value o.accepted ++ value o.refused
 unfoldable pub saved_text : List ℕ → List ℕ
 saved_text bytes = codes "ok" ++ value (length bytes) ++ codes " " ++ encode_lower bytes ++ line_end
 
+-- of an object that isn't there
+unfoldable pub not_live_text : Kind → ℕ → List ℕ
+not_live_text k id = codes "refused 2 NotLive" ++ spaced (kind_word k) ++ value id ++ line_end
+
 -- of an edit that its plan refuses; for want of memory there is no reply
 unfoldable pub refusal_text : Refusal → List ℕ
+refusal_text (refusal.NotLive k id) = not_live_text k id
+refusal_text (refusal.BadValue place) = codes "refused 3 BadValue" ++ value place ++ line_end
 refusal_text (refusal.BadName place) = codes "refused 4 BadName" ++ value place ++ line_end
+refusal_text (refusal.Unknown place) = codes "refused 5 Unknown" ++ value place ++ line_end
 refusal_text (refusal.NameTaken id) = codes "refused 6 NameTaken" ++ value id ++ line_end
-refusal_text (refusal.TableFull kind) = codes "refused 15 TableFull " ++ kind_word kind ++ line_end
+refusal_text (refusal.Joined net) = codes "refused 7 Joined" ++ value net ++ line_end
+refusal_text refusal.NotJoined = codes "refused 8 NotJoined" ++ line_end
+refusal_text (refusal.TermsDiffer name) = codes "refused 9 TermsDiffer" ++ spaced name ++ line_end
+refusal_text refusal.Special = codes "refused 13 Special" ++ line_end
+refusal_text (refusal.TableFull k) = codes "refused 15 TableFull" ++ spaced (kind_word k) ++ line_end
 refusal_text refusal.Memory = []
 
 -- of a line that is no command; for want of memory there is no reply
@@ -46,6 +56,22 @@ fault_text fault.UnknownCommand = codes "refused 21 UnknownCommand" ++ line_end
 fault_text fault.BadWords = codes "refused 22 BadWords" ++ line_end
 fault_text fault.Memory = []
 
+-- of a line that is too long
+unfoldable pub long_line_text : List ℕ
+long_line_text = codes "refused 23 LongLine" ++ line_end
+
 -- of a command that the ECO state doesn't allow
 unfoldable pub wrong_state_text : EcoState → List ℕ
-wrong_state_text state = codes "refused 24 WrongState " ++ eco_state_word state ++ line_end
+wrong_state_text state = codes "refused 24 WrongState" ++ spaced (eco_state_word state) ++ line_end
+
+-- of a master that isn't entered; for want of memory there is no reply
+unfoldable pub part_text : PartFault → List ℕ
+part_text part.NameTaken = codes "refused 28 LefBuild NameTaken 1" ++ line_end
+part_text part.BadPart = codes "refused 28 LefBuild BadPart 1" ++ line_end
+part_text part.Full = codes "refused 28 LefBuild Full 1" ++ line_end
+part_text part.Memory = []
+
+-- of a query of an object that isn't there; for want of memory there is no reply
+unfoldable pub report_fault_text : ReportFault → List ℕ
+report_fault_text (report.NotLive k id) = not_live_text k id
+report_fault_text report.Memory = []

@@ -1,26 +1,46 @@
 -- What the calls of a session do to its state.
-use Rattle.std.specs.Prelude.{◌≡◌, List, [], ℕ, Option, None, Some, Result, Ok, Err, length}
-use Rattle.odb_run.specs.declared.edit_words.Edit.{Edit}
-use Rattle.odb_run.specs.declared.edit_words.Outcome.{Outcome}
-use Rattle.odb_run.specs.declared.edit_words.Refusal.{Refusal}
-use Rattle.odb_run.specs.declared.edit_words.Refusal.TheVariants as refusal
-use Rattle.odb_run.specs.declared.edit_words.Step.{Step}
+use Rattle.std.specs.Prelude.{◌≡◌, ◌≢◌, ◌+◌, ◌++◌, List, [], ℕ, Option, None, Some, Result, Ok, Err, length}
+use Rattle.odb_base.specs.declared.id.MasterId.{MasterId}
+use Rattle.library.specs.declared.master.Master.{Master}
+use Rattle.edit_words.specs.declared.edit.Edit.{Edit}
+use Rattle.edit_words.specs.declared.refusal.Refusal.{Refusal}
+use Rattle.edit_words.specs.declared.refusal.Refusal.TheVariants as refusal
+use Rattle.edit_words.specs.declared.step.Step.{Step}
+use Rattle.steps_net.specs.Do.{do_all}
+use Rattle.edits.specs.Plan.{made}
+use Rattle.odb_run.specs.declared.outcome.Outcome.{Outcome}
+use Rattle.odb_run.specs.declared.parts.PartFault.{PartFault}
+use Rattle.odb_run.specs.declared.parts.PartFault.TheVariants as part
+use Rattle.odb_run.specs.declared.session.AddFault.{AddFault}
+use Rattle.odb_run.specs.declared.session.AddFault.TheVariants as add
+use Rattle.odb_run.specs.declared.session.UndoFault.{UndoFault}
+use Rattle.odb_run.specs.declared.session.UndoFault.TheVariants as undo
 use Rattle.odb_run.specs.declared.session.WrongState.{WrongState}
-use Rattle.odb_run.specs.Edits.{made, plan}
-use Rattle.odb_run.specs.Machine.{Kept, State, after_edit, eco_state, lone_outcome}
+use Rattle.odb_run.specs.Machine.{Kept, State, after_edit, eco_state, lone_outcome, plan_in, with_master}
+use Rattle.odb_run.specs.Parts.{part_fault}
+
+-- the first of these steps were done
+pub record IsPartDone (steps : List Step) (old new : State) : Type 0 where
+  pub done : List Step
+  pub rest : List Step
+  pub split : steps ≡ done ++ rest
+  pub state : new ≡ after_edit done old
 
 -- the plan's steps were done, and this is what they came to
 abbrev pub IsPlanned : Result (List Step) Refusal → State → Outcome → State → Type 0
 IsPlanned (Ok steps) s outcome new = (new ≡ after_edit steps s) × (outcome ≡ lone_outcome (made steps))
-IsPlanned (Err refusal) s outcome new = ⊥
+IsPlanned (Err why) s outcome new = ⊥
 
--- What an edit does. Refused, be it by its plan or for want of memory, it leaves the state as it was.
+-- the first of the plan's steps were done, or nothing was
+abbrev pub IsPartPlanned : Result (List Step) Refusal → State → State → Type 0
+IsPartPlanned (Ok steps) s new = IsPartDone steps s new
+IsPartPlanned (Err why) s new = new ≡ s
+
+-- What an edit does. Refused by its plan, it leaves the state as it was; for want of memory the first of the
+-- plan's steps may be done.
 abbrev pub Edits : State → Edit → Result Outcome Refusal → State → Type 0
-Edits s edit (Ok outcome) new = IsPlanned (plan s.database edit) s outcome new
-Edits s edit (Err (refusal.BadName place)) new = (plan s.database edit ≡ Err (refusal.BadName place)) × (new ≡ s)
-Edits s edit (Err (refusal.NameTaken id)) new = (plan s.database edit ≡ Err (refusal.NameTaken id)) × (new ≡ s)
-Edits s edit (Err (refusal.TableFull kind)) new = (plan s.database edit ≡ Err (refusal.TableFull kind)) × (new ≡ s)
-Edits s edit (Err refusal.Memory) new = new ≡ s
+Edits s edit (Ok outcome) new = IsPlanned (plan_in s edit) s outcome new
+Edits s edit (Err why) new = (why ≢ refusal.Memory → (plan_in s edit ≡ Err why) × (new ≡ s)) × IsPartPlanned (plan_in s edit) s new
 
 -- what `eco_begin` does: a copy of the database is kept
 abbrev pub Begins : State → Option Kept → Result (Unit {0}) WrongState → State → Type 0
@@ -29,9 +49,34 @@ Begins s (Some kept) (Err fault) new = (fault.is ≡ eco_state (Some kept)) × (
 Begins s None (Err fault) new = ⊥
 Begins s (Some kept) (Ok done) new = ⊥
 
--- what `eco_undo` does: the database is the copy, and the answer is how many steps were undone
-abbrev pub Undoes : State → Option Kept → Result ℕ WrongState → State → Type 0
+-- the first of the steps that an ECO noted are left: they lead from its copy to the database
+pub record IsPartUndone (kept : Kept) (new : State) : Type 0 where
+  pub front : List Step
+  pub rest : List Step
+  pub steps : kept.steps ≡ front ++ rest
+  pub eco : new.eco ≡ Some (record kept { steps = front })
+  pub leads : new.database ≡ record kept.copy { block = do_all kept.copy.library front kept.copy.block }
+
+-- What `eco_undo` does: the database is the copy, and the answer is how many steps were undone. For want of
+-- memory the ECO stands with the first of its steps.
+abbrev pub Undoes : State → Option Kept → Result ℕ UndoFault → State → Type 0
 Undoes s (Some kept) (Ok count) new = (new ≡ record { database = kept.copy; eco = None }) × (count ≡ length kept.steps)
-Undoes s None (Err fault) new = (fault.is ≡ eco_state None) × (new ≡ s)
-Undoes s (Some kept) (Err fault) new = ⊥
+Undoes s None (Err (undo.WrongState is)) new = (is ≡ eco_state None) × (new ≡ s)
+Undoes s (Some kept) (Err undo.Memory) new = IsPartUndone kept new
+Undoes s None (Err undo.Memory) new = ⊥
+Undoes s (Some kept) (Err (undo.WrongState is)) new = ⊥
 Undoes s None (Ok count) new = ⊥
+
+-- what the library answers to a master where no ECO stands
+abbrev pub IsAdded : State → Master → Result MasterId PartFault → State → Type 0
+IsAdded s m (Ok id) new = (part_fault s.database m ≡ None) × (new ≡ record s { database = with_master m s.database }) × (id.0 ≡ length s.database.library + 1)
+IsAdded s m (Err why) new = (why ≢ part.Memory → part_fault s.database m ≡ Some why) × (new ≡ s)
+
+-- what adding a master does
+abbrev pub Adds : State → Master → Option Kept → Result MasterId AddFault → State → Type 0
+Adds s m None (Ok id) new = IsAdded s m (Ok id) new
+Adds s m None (Err (add.Part why)) new = IsAdded s m (Err why) new
+Adds s m None (Err (add.WrongState is)) new = ⊥
+Adds s m (Some kept) (Ok id) new = ⊥
+Adds s m (Some kept) (Err (add.Part why)) new = ⊥
+Adds s m (Some kept) (Err (add.WrongState is)) new = (is ≡ eco_state (Some kept)) × (new ≡ s)

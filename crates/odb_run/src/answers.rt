@@ -1,16 +1,21 @@
 ghost use Rattle.std.specs.Prelude.{IfOk};
-ghost use Rattle.odb_run.specs.Machine.{answer, begin_answer, command_answer, edit_answer, request_answer, save_answer, undo_answer};
+ghost use Rattle.odb_run.specs.Machine.{answer, begin_answer, command_answer, edit_answer, master_answer, report_answer, request_answer, save_answer, undo_answer};
 ghost use Rattle.odb_run.specs.Running.{Answers};
+ghost use Rattle.script_words.specs.Commands.{request_of};
 
-use crate::command_words::{Command, LineFault};
-use crate::edit_words::{Edit, Refusal};
+use crate::parts::PartFault;
 use crate::reply::{
-    put_fault, put_ok, put_ok_number, put_outcome, put_refusal, put_saved, put_wrong_state,
+    put_fault, put_long_line, put_ok, put_ok_number, put_outcome, put_part_fault, put_refusal,
+    put_report_fault, put_saved, put_wrong_state,
 };
-use crate::request::command;
-use crate::save::save;
-use crate::session::Session;
+use crate::run::LINE_LIMIT;
+use crate::session::{AddFault, Session, UndoFault};
+use edit_words::{Edit, Refusal};
+use library::Master;
 use odb_base::Steps;
+use odb_save::save;
+use reports::{Query, ReportFault, report};
+use script_words::{Command, LineFault, command};
 use std::alloc::{AllocError, Global};
 use std::sync::ledger::Ledger;
 
@@ -24,6 +29,22 @@ pub fn answer_line<L: Ledger>(
     moves: &mut Steps<L>,
 ) -> Result<bool, AllocError>
     ensures { IfOk result (Answers (answer session.old line.now) session.new replies.old.items replies.new.items) }
+{
+    if line.len() > LINE_LIMIT {
+        put_long_line(replies)?;
+        return Ok(true);
+    }
+    answer_request(alloc, session, line, replies, moves)
+}
+
+fn answer_request<L: Ledger>(
+    alloc: Global,
+    session: &mut Session,
+    line: &[u8],
+    replies: &mut Vec<u8>,
+    moves: &mut Steps<L>,
+) -> Result<bool, AllocError>
+    ensures { IfOk result (Answers (request_answer session.old (request_of line.now)) session.new replies.old.items replies.new.items) }
 {
     match command(alloc, line) {
         Ok(None) => Ok(false),
@@ -47,6 +68,12 @@ fn answer_command<L: Ledger>(
 {
     match command {
         Command::Edit(edit) => answer_edit(alloc, session, &edit, replies, moves),
+        Command::Master(master) => answer_master(session, master, replies),
+        Command::Find { kind, name } => answer_query(session, &Query::Find { kind, name }, replies),
+        Command::List { kind } => answer_query(session, &Query::List { kind }, replies),
+        Command::Free { kind } => answer_query(session, &Query::Free { kind }, replies),
+        Command::Counts => answer_query(session, &Query::Counts, replies),
+        Command::Terms { net } => answer_query(session, &Query::Terms { net }, replies),
         Command::SaveShown => answer_save(alloc, session, replies),
         Command::EcoBegin => answer_begin(alloc, session, replies),
         Command::EcoUndo => answer_undo(session, replies, moves),
@@ -68,9 +95,49 @@ fn answer_edit<L: Ledger>(
             put_outcome(replies, &outcome)?;
             Ok(false)
         }
-        Err(Refusal::Memory) => Err(AllocError),
         Err(refusal) => {
             put_refusal(replies, refusal)?;
+            Ok(true)
+        }
+    }
+}
+
+#[tactic(auto, unfolding(crate::specs::Machine::master_answer))]
+fn answer_master(
+    session: &mut Session,
+    master: Master,
+    replies: &mut Vec<u8>,
+) -> Result<bool, AllocError>
+    ensures { IfOk result (Answers (master_answer session.old master session.old.eco) session.new replies.old.items replies.new.items) }
+{
+    match session.add_master(master) {
+        Ok(id) => {
+            put_ok_number(replies, id.0 as u64)?;
+            Ok(false)
+        }
+        Err(AddFault::WrongState { is }) => {
+            put_wrong_state(replies, is)?;
+            Ok(true)
+        }
+        Err(AddFault::Part(fault)) => {
+            put_part_fault(replies, fault)?;
+            Ok(true)
+        }
+    }
+}
+
+#[tactic(auto, unfolding(crate::specs::Machine::report_answer))]
+fn answer_query(
+    session: &mut Session,
+    query: &Query,
+    replies: &mut Vec<u8>,
+) -> Result<bool, AllocError>
+    ensures { IfOk result (Answers (report_answer session.old query.now) session.new replies.old.items replies.new.items) }
+{
+    match report(session.database(), query, replies) {
+        Ok(()) => Ok(false),
+        Err(fault) => {
+            put_report_fault(replies, fault)?;
             Ok(true)
         }
     }
@@ -83,7 +150,7 @@ fn answer_save(
 ) -> Result<bool, AllocError>
     ensures { IfOk result (Answers (save_answer session.old) session.new replies.old.items replies.new.items) }
 {
-    let bytes = save(alloc, session.block())?;
+    let bytes = save(alloc, session.database())?;
     put_saved(alloc, replies, &bytes)?;
     Ok(false)
 }
@@ -119,9 +186,10 @@ fn answer_undo<L: Ledger>(
             put_ok_number(replies, count)?;
             Ok(false)
         }
-        Err(fault) => {
-            put_wrong_state(replies, fault.is)?;
+        Err(UndoFault::WrongState { is }) => {
+            put_wrong_state(replies, is)?;
             Ok(true)
         }
+        Err(UndoFault::Memory) => Err(AllocError),
     }
 }

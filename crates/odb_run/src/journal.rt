@@ -1,6 +1,6 @@
 ghost use Rattle.std.specs.Prelude.{◌≡◌, ◌+◌, ◌≤◌, ◌++◌, [], ◌∷◌, None, Some, OnOk, length, IfSome, IfNone};
 
-use crate::edit_words::{Memo, Step};
+use edit_words::{Memo, Step};
 use std::alloc::{AllocError, Global};
 use std::marker::Model;
 
@@ -63,6 +63,7 @@ impl Journal {
     pub fn pop(&mut self) -> Option<Entry>
         ensures some { IfSome result (λ entry. self.old.entries ≡ self.new.entries ++ entry ∷ []) }
         ensures none { IfNone result ((self.old.entries ≡ []) × (self.new.entries ≡ [])) }
+        ensures spare { IfSome result (λ entry. 1 ≤ self.new.spare) }
     {
         self.entries.pop()
     }

@@ -1,10 +1,14 @@
-ghost use Rattle.std.specs.Prelude.{◌≡◌, ◌++◌, OnOk};
-ghost use Rattle.odb_run.specs.Replies.{fault_text, line_end, number_text, ok_text, outcome_text, refusal_text, saved_text, value, wrong_state_text};
+ghost use Rattle.std.specs.Prelude.{◌≡◌, ◌≢◌, ◌++◌, OnOk};
+ghost use Rattle.reports.specs.Texts.{line_end, spaced, value};
+ghost use Rattle.odb_run.specs.Replies.{fault_text, long_line_text, not_live_text, number_text, ok_text, outcome_text, part_text, refusal_text, report_fault_text, saved_text, wrong_state_text};
 
-use crate::command_words::LineFault;
-use crate::edit_words::{Outcome, Refusal};
-use itoa::Buffer;
-use odb_base::{EcoState, Worded};
+use crate::outcome::Outcome;
+use crate::parts::PartFault;
+use edit_words::Refusal;
+use odb_base::{EcoState, Kind, Worded};
+use reports::ReportFault;
+use reports::text::{end_line, put_value, put_word};
+use script_words::LineFault;
 use std::alloc::{AllocError, Global};
 
 /// Appends `ok`.
@@ -56,29 +60,45 @@ pub fn put_saved(alloc: Global, out: &mut Vec<u8>, bytes: &[u8]) -> Result<(), A
     Ok(())
 }
 
-/// Appends the refusal of an edit, other than for want of memory.
+/// Appends the refusal of an edit; for want of memory there is none.
 #[tactic(auto, unfolding(crate::specs::Replies::refusal_text))]
 pub fn put_refusal(out: &mut Vec<u8>, refusal: Refusal) -> Result<(), AllocError>
-    ensures { OnOk result (out.new.items ≡ out.old.items ++ refusal_text refusal) }
+    ensures text { OnOk result (out.new.items ≡ out.old.items ++ refusal_text refusal) }
+    ensures memory { OnOk result (refusal ≢ Refusal.Memory) }
 {
     match refusal {
+        Refusal::NotLive { kind, id } => put_not_live(out, kind, id),
+        Refusal::BadValue { at } => put_numbered(out, b"refused 3 BadValue", at),
         Refusal::BadName { at } => put_numbered(out, b"refused 4 BadName", at),
+        Refusal::Unknown { at } => put_numbered(out, b"refused 5 Unknown", at),
         Refusal::NameTaken { id } => put_numbered(out, b"refused 6 NameTaken", id),
-        Refusal::TableFull { kind } => put_worded(out, b"refused 15 TableFull ", kind.word()),
+        Refusal::Joined { net } => put_numbered(out, b"refused 7 Joined", net),
+        Refusal::NotJoined => put_line(out, b"refused 8 NotJoined"),
+        Refusal::TermsDiffer { name } => put_worded(out, b"refused 9 TermsDiffer", name.bytes()),
+        Refusal::Special => put_line(out, b"refused 13 Special"),
+        Refusal::TableFull { kind } => put_worded(out, b"refused 15 TableFull", kind.word()),
         Refusal::Memory => Err(AllocError),
     }
 }
 
-/// Appends the refusal of a line that is no command, other than for want of memory.
+/// Appends the refusal of a line that is no command; for want of memory there is none.
 #[tactic(auto, unfolding(crate::specs::Replies::fault_text))]
 pub fn put_fault(out: &mut Vec<u8>, fault: LineFault) -> Result<(), AllocError>
     ensures { OnOk result (out.new.items ≡ out.old.items ++ fault_text fault) }
 {
     match fault {
-        LineFault::UnknownCommand => put_worded(out, b"refused 21 ", b"UnknownCommand"),
-        LineFault::BadWords => put_worded(out, b"refused 22 ", b"BadWords"),
+        LineFault::UnknownCommand => put_line(out, b"refused 21 UnknownCommand"),
+        LineFault::BadWords => put_line(out, b"refused 22 BadWords"),
         LineFault::Memory => Err(AllocError),
     }
+}
+
+/// Appends the refusal of a line that is too long.
+#[tactic(auto, unfolding(crate::specs::Replies::long_line_text))]
+pub fn put_long_line(out: &mut Vec<u8>) -> Result<(), AllocError>
+    ensures { OnOk result (out.new.items ≡ out.old.items ++ long_line_text) }
+{
+    put_line(out, b"refused 23 LongLine")
 }
 
 /// Appends the refusal of a command that the ECO state doesn't allow.
@@ -86,7 +106,44 @@ pub fn put_fault(out: &mut Vec<u8>, fault: LineFault) -> Result<(), AllocError>
 pub fn put_wrong_state(out: &mut Vec<u8>, state: EcoState) -> Result<(), AllocError>
     ensures { OnOk result (out.new.items ≡ out.old.items ++ wrong_state_text state) }
 {
-    put_worded(out, b"refused 24 WrongState ", state.word())
+    put_worded(out, b"refused 24 WrongState", state.word())
+}
+
+/// Appends the refusal of a master; for want of memory there is none.
+#[tactic(auto, unfolding(crate::specs::Replies::part_text))]
+pub fn put_part_fault(out: &mut Vec<u8>, fault: PartFault) -> Result<(), AllocError>
+    ensures text { OnOk result (out.new.items ≡ out.old.items ++ part_text fault) }
+    ensures memory { OnOk result (fault ≢ PartFault.Memory) }
+{
+    match fault {
+        PartFault::NameTaken => put_line(out, b"refused 28 LefBuild NameTaken 1"),
+        PartFault::BadPart => put_line(out, b"refused 28 LefBuild BadPart 1"),
+        PartFault::Full => put_line(out, b"refused 28 LefBuild Full 1"),
+        PartFault::Memory => Err(AllocError),
+    }
+}
+
+/// Appends the refusal of a query; for want of memory there is none.
+#[tactic(auto, unfolding(crate::specs::Replies::report_fault_text))]
+pub fn put_report_fault(out: &mut Vec<u8>, fault: ReportFault) -> Result<(), AllocError>
+    ensures text { OnOk result (out.new.items ≡ out.old.items ++ report_fault_text fault) }
+    ensures memory { OnOk result (fault ≢ ReportFault.Memory) }
+{
+    match fault {
+        ReportFault::NotLive { kind, id } => put_not_live(out, kind, id),
+        ReportFault::Memory => Err(AllocError),
+    }
+}
+
+// Appends the refusal of what names an object that isn't there.
+#[tactic(auto, unfolding(crate::specs::Replies::not_live_text))]
+fn put_not_live(out: &mut Vec<u8>, kind: Kind, id: u32) -> Result<(), AllocError>
+    ensures { OnOk result (out.new.items ≡ out.old.items ++ not_live_text kind id) }
+{
+    put_text_and_word(out, b"refused 2 NotLive", kind.word())?;
+    put_value(out, id as u64)?;
+    end_line(out)?;
+    Ok(())
 }
 
 // Appends a line of a text and a number.
@@ -101,27 +158,27 @@ fn put_numbered(out: &mut Vec<u8>, text: &[u8], n: u32) -> Result<(), AllocError
 
 // Appends a line of a text and a word.
 fn put_worded(out: &mut Vec<u8>, text: &[u8], word: &[u8]) -> Result<(), AllocError>
-    ensures { OnOk result (out.new.items ≡ out.old.items ++ (text.now ++ word.now ++ line_end)) }
+    ensures { OnOk result (out.new.items ≡ out.old.items ++ (text.now ++ spaced word.now ++ line_end)) }
 {
-    out.extend_from_slice(text)?;
-    out.extend_from_slice(word)?;
+    put_text_and_word(out, text, word)?;
     end_line(out)?;
     Ok(())
 }
 
-// Appends a space and a number.
-fn put_value(out: &mut Vec<u8>, n: u64) -> Result<(), AllocError>
-    ensures { OnOk result (out.new.items ≡ out.old.items ++ value n) }
+// Appends a text and a word.
+fn put_text_and_word(out: &mut Vec<u8>, text: &[u8], word: &[u8]) -> Result<(), AllocError>
+    ensures { OnOk result (out.new.items ≡ out.old.items ++ (text.now ++ spaced word.now)) }
 {
-    let mut buffer = Buffer::new();
-    out.extend_from_slice(b" ")?;
-    out.extend_from_slice(buffer.format(n).as_bytes())?;
+    out.extend_from_slice(text)?;
+    put_word(out, word)?;
     Ok(())
 }
 
-fn end_line(out: &mut Vec<u8>) -> Result<(), AllocError>
-    ensures { OnOk result (out.new.items ≡ out.old.items ++ line_end) }
+// Appends a line of a text.
+fn put_line(out: &mut Vec<u8>, text: &[u8]) -> Result<(), AllocError>
+    ensures { OnOk result (out.new.items ≡ out.old.items ++ (text.now ++ line_end)) }
 {
-    out.extend_from_slice(b"\n")?;
+    out.extend_from_slice(text)?;
+    end_line(out)?;
     Ok(())
 }

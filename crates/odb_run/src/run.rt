@@ -1,6 +1,7 @@
-ghost use Rattle.std.specs.Prelude.{◌≡◌, ◌<◌, ◌++◌, [], IfOk, IfSome, IsTrue, OnErr, OnOk, false, length};
+ghost use Rattle.std.specs.Prelude.{◌≡◌, ◌<◌, ◌≤◌, ◌++◌, [], IfOk, IfSome, IsTrue, OnErr, OnOk, false, length};
 ghost use Rattle.odb_outside.specs.Outside.{HasWriteCause};
 ghost use Rattle.odb_outside.specs.Writing.{Grows, GrowsByPrefix, UnlessFailed};
+ghost use Rattle.block_store.specs.declared.block.TheConstants.{SLOT_LIMIT};
 ghost use Rattle.odb_run.specs.Machine.{start};
 ghost use Rattle.odb_run.specs.Lines.{IsLineEnd, has_line_end};
 
@@ -17,8 +18,8 @@ use std::sync::ledger::Ledger;
 /// How many bytes of the script are read at once, and of how many replies are written at once.
 pub const PIECE: usize = 16384;
 
-/// The greatest number of slots that a table may have.
-pub const MAX_SLOTS: u32 = 16_777_215;
+/// The greatest number of bytes in a line.
+pub const LINE_LIMIT: usize = 65_535;
 
 /// A run between two pieces of its script.
 #[derive(Drop)]
@@ -47,16 +48,18 @@ impl Model for Run {
 impl Run {
     ghost use Rattle.odb_run.specs.Running.{EndsLast, Finishes, Goes, HasOutCause, IsOver, WritesSome, first_run, replied, to_come};
 
-    /// A run that has taken nothing of its script, over the empty database.
-    pub fn new(alloc: Global) -> Run
-        ensures { result ≡ first_run (start MAX_SLOTS) }
+    /// A run that has taken nothing of its script, over the empty database, whose tables have at most `cap`
+    /// slots each.
+    pub fn new(alloc: Global, cap: u32) -> Result<Run, AllocError>
+        requires { cap ≤ SLOT_LIMIT }
+        ensures { IfOk result (λ run. run ≡ first_run (start cap)) }
     {
-        Run {
-            session: Session::new(alloc, MAX_SLOTS),
+        Ok(Run {
+            session: Session::new(alloc, cap)?,
             line: Vec::new(alloc),
             unwritten: Vec::new(alloc),
             refused: false,
-        }
+        })
     }
 
     /// Answers the unfinished line, where there is one, writes the replies, and says whether there was a

@@ -1,17 +1,18 @@
-ghost use Rattle.std.specs.Prelude.{◌≡◌, ◌≤◌, ◌++◌, ◌∷◌, [], IfErr, None, OnErr, OnOk, Some};
-ghost use Rattle.slot_pool.specs.Table.{takes_left};
-ghost use Rattle.odb_run.specs.Blocks.{block_of, database_of};
-ghost use Rattle.odb_run.specs.Edits.{step_block};
-ghost use Rattle.odb_run.specs.Journal.{IsUndoable, steps_of, undone};
-ghost use Rattle.odb_run.specs.Planning.{HasNextId, HasRoom};
+ghost use Rattle.std.specs.Prelude.{◌≡◌, ◌≤◌, ◌∷◌, [], None, IfOk, OnErr, OnOk};
+ghost use Rattle.edits.specs.Plan.{CanAll, made as made_by};
+ghost use Rattle.steps_net.specs.Can.{Can};
+ghost use Rattle.steps_net.specs.Room.{lacks};
+ghost use Rattle.block_store.specs.declared.block.TheConstants.{SLOT_LIMIT};
 
-use crate::block::Block;
-use crate::edit_words::{Edit, Outcome, Refusal, Step};
-use crate::edits::plan;
 use crate::journal::Journal;
-use crate::steps::{apply, unapply_all};
-use odb_base::{EcoState, Steps};
-use slot_pool::{PoolFault, SlotPool};
+use crate::outcome::Outcome;
+use crate::parts::{PartFault, part_fault};
+use crate::steps::{do_noted, do_unnoted, undo_all};
+use block_store::Database;
+use edit_words::{Edit, Refusal, Step};
+use edits::plan;
+use library::Master;
+use odb_base::{EcoState, MasterId, Steps};
 use std::alloc::{AllocError, Global};
 use std::marker::Model;
 use std::sync::ledger::Ledger;
@@ -22,11 +23,29 @@ pub struct WrongState {
     pub is: EcoState,
 }
 
+/// Why an ECO isn't undone.
+#[derive(Clone, Copy, Debug, PartialEq, Eq)]
+pub enum UndoFault {
+    /// No ECO stands.
+    WrongState { is: EcoState },
+    /// There is no memory to put a member back into its list. The ECO stands, with the steps that are left.
+    Memory,
+}
+
+/// Why a master isn't added.
+#[derive(Clone, Copy, Debug, PartialEq, Eq)]
+pub enum AddFault {
+    /// An ECO stands.
+    WrongState { is: EcoState },
+    /// The library doesn't take it.
+    Part(PartFault),
+}
+
 /// A database under edits, and the ECO that stands, if one does. Contracts see a state of the copying machine:
 /// the journal stands for the copy from which its steps lead to the database.
 #[derive(Drop)]
 pub struct Session {
-    block: Block,
+    database: Database,
     journal: Option<Journal>,
 }
 
@@ -35,38 +54,38 @@ impl Model for Session {
 
     ghost Value = { State };
 
-    ghost use Rattle.odb_run.specs.Blocks.{block_of, database_of};
     ghost use Rattle.odb_run.specs.Journal.{LeadsBack, eco_of};
 
-    ghost view = { λ s. record { database = database_of s.block; eco = eco_of (database_of s.block) s.journal } };
+    ghost view = { λ s. record { database = s.database; eco = eco_of s.database s.journal } };
 
-    ghost invariant = { λ s. LeadsBack s.journal (block_of s.block) };
+    ghost invariant = { λ s. LeadsBack s.journal s.database };
 }
 
 impl Session {
     ghost use Rattle.odb_run.specs.Machine.{after_edit, start};
-    ghost use Rattle.odb_run.specs.Sessions.{Begins, Edits, Undoes};
+    ghost use Rattle.odb_run.specs.Sessions.{Adds, Begins, Edits, IsPartDone, Undoes};
 
-    /// A session over the empty database, whose tables have at most `cap` slots each. It takes no memory.
-    pub fn new(alloc: Global, cap: u32) -> Session
-        ensures { result ≡ start cap }
+    /// A session over the empty database, whose tables have at most `cap` slots each.
+    #[tactic(auto, unfolding(crate::specs::Machine::start))]
+    pub fn new(alloc: Global, cap: u32) -> Result<Session, AllocError>
+        requires { cap ≤ SLOT_LIMIT }
+        ensures { IfOk result (λ session. session ≡ start cap) }
     {
-        Session {
-            block: Block {
-                nets: SlotPool::new(alloc, cap),
-            },
+        Ok(Session {
+            database: Database::new(alloc, cap)?,
             journal: None,
-        }
+        })
     }
 
-    /// The block of the database.
-    pub fn block(&self) -> &Block
-        ensures { database_of result.now ≡ self.now.database }
+    /// The database.
+    pub fn database(&self) -> &Database
+        ensures { result.now ≡ self.now.database }
     {
-        &self.block
+        &self.database
     }
 
-    /// Does an edit. Refused, or for want of memory, it leaves everything as it was.
+    /// Does an edit. Refused, it leaves everything as it was. For want of memory, the first of the plan's
+    /// steps may be done, and are noted.
     pub fn edit<L: Ledger>(
         &mut self,
         alloc: Global,
@@ -75,9 +94,10 @@ impl Session {
     ) -> Result<Outcome, Refusal>
         ensures { Edits self.old edit.now result self.new }
     {
-        let step = plan(alloc, &self.block, edit)?;
-        let id = step.id();
-        self.accept(step, moves)?;
+        let db = &self.database;
+        let steps = plan(alloc, &db.block, &db.tech, &db.library, edit)?;
+        let id = made(&steps);
+        self.accept(steps, moves)?;
         Ok(Outcome {
             id,
             accepted: 1,
@@ -87,20 +107,49 @@ impl Session {
         })
     }
 
-    // Does the step of a plan, and notes it with the ECO that stands. For want of memory nothing is done.
-    fn accept<L: Ledger>(&mut self, step: Step, moves: &mut Steps<L>) -> Result<(), AllocError>
-        requires id { HasNextId step self.old.database.block }
-        requires room { HasRoom step self.old.database }
+    // Does the steps of a plan in their order.
+    fn accept<L: Ledger>(
+        &mut self,
+        mut steps: Vec<Step>,
+        moves: &mut Steps<L>,
+    ) -> Result<(), AllocError>
+        requires { CanAll self.old.database.library self.old.database.cap self.old.database.block steps.items }
+        ensures ok { OnOk result (self.new ≡ after_edit steps.items self.old) }
+        ensures err { OnErr result (IsPartDone steps.items self.old self.new) }
+    {
+        steps.reverse();
+        while let Some(step) = steps.pop() {
+            self.do_step(step, moves)?;
+        }
+        Ok(())
+    }
+
+    // Does a step, and notes it with the ECO that stands. For want of memory nothing is done.
+    fn do_step<L: Ledger>(&mut self, step: Step, moves: &mut Steps<L>) -> Result<(), AllocError>
+        requires can { Can self.old.database.library self.old.database.block step }
+        requires room { lacks step self.old.database.cap self.old.database.block ≡ None }
         ensures ok { OnOk result (self.new ≡ after_edit (step ∷ []) self.old) }
         ensures err { OnErr result (self.new ≡ self.old) }
     {
-        reserve(&mut self.block, &step)?;
         match &mut self.journal {
-            None => {
-                apply(&mut self.block, step, moves);
-                Ok(())
-            }
-            Some(journal) => note_and_apply(&mut self.block, journal, step, moves),
+            None => do_unnoted(&mut self.database, step, moves),
+            Some(journal) => do_noted(&mut self.database, journal, step, moves),
+        }
+    }
+
+    /// Adds a master to the library. A refusal, and want of memory, leave everything as it was.
+    pub fn add_master(&mut self, master: Master) -> Result<MasterId, AddFault>
+        ensures { Adds self.old master self.old.eco result self.new }
+    {
+        if self.journal.is_some() {
+            return Err(AddFault::WrongState { is: EcoState::Open });
+        }
+        if let Some(fault) = part_fault(&self.database, &master) {
+            return Err(AddFault::Part(fault));
+        }
+        match self.database.add_master(master) {
+            Ok(id) => Ok(id),
+            Err(AllocError) => Err(AddFault::Part(PartFault::Memory)),
         }
     }
 
@@ -117,64 +166,33 @@ impl Session {
         }
     }
 
-    /// Takes back all steps of the ECO, and answers how many they were. It takes no memory.
-    pub fn eco_undo<L: Ledger>(&mut self, moves: &mut Steps<L>) -> Result<u64, WrongState>
+    /// Takes back all steps of the ECO, and answers how many they were. For want of memory the ECO stands, with
+    /// the steps that are left.
+    pub fn eco_undo<L: Ledger>(&mut self, moves: &mut Steps<L>) -> Result<u64, UndoFault>
         ensures { Undoes self.old self.old.eco result self.new }
     {
-        match self.journal.take() {
-            None => Err(WrongState { is: EcoState::None }),
+        match &mut self.journal {
+            None => Err(UndoFault::WrongState { is: EcoState::None }),
             Some(journal) => {
                 let count = journal.len() as u64;
-                unapply_all(&mut self.block, journal, moves);
+                if undo_all(&mut self.database, journal, moves).is_err() {
+                    return Err(UndoFault::Memory);
+                }
+                self.journal = None;
                 Ok(count)
             }
         }
     }
 }
 
-// Makes room for a step, for which the cap leaves slots.
-fn reserve(block: &mut Block, step: &Step) -> Result<(), AllocError>
-    requires { HasRoom step.now (database_of block.old) }
-    ensures ok { OnOk result (1 ≤ block.new.nets.spare) }
-    ensures same { database_of block.new ≡ database_of block.old }
+// The identifier of the object that the steps of a plan make, 0 where they make none.
+fn made(steps: &[Step]) -> u32
+    ensures { result ≡ made_by steps.now }
 {
-    match step {
-        Step::NewNet { .. } => reserve_net(block),
+    match steps.first() {
+        Some(Step::NewInst { id, .. }) => *id,
+        Some(Step::NewNet { id, .. }) => *id,
+        Some(Step::NewBTerm { id, .. }) => *id,
+        _ => 0,
     }
-}
-
-fn reserve_net(block: &mut Block) -> Result<(), AllocError>
-    requires { 1 ≤ takes_left block.old.nets }
-    ensures ok { OnOk result (1 ≤ block.new.nets.spare) }
-    ensures same { database_of block.new ≡ database_of block.old }
-{
-    match block.nets.reserve(1) {
-        Ok(()) => Ok(()),
-        Err(PoolFault::Memory) => Err(AllocError),
-        Err(PoolFault::Full) => unreachable!(),
-    }
-}
-
-// Does a step for which there is room, and notes it in the journal. For want of memory nothing is done.
-fn note_and_apply<L: Ledger>(
-    block: &mut Block,
-    journal: &mut Journal,
-    step: Step,
-    moves: &mut Steps<L>,
-) -> Result<(), AllocError>
-    requires id { HasNextId step (block_of block.old) }
-    requires room { 1 ≤ block.old.nets.spare }
-    requires undoable { IsUndoable journal.old.entries (block_of block.old) }
-    ensures block { OnOk result (block_of block.new ≡ step_block step (block_of block.old)) }
-    ensures cap { block.new.nets.cap ≡ block.old.nets.cap }
-    ensures noted { OnOk result (steps_of journal.new.entries ≡ steps_of journal.old.entries ++ step ∷ []) }
-    ensures copy { undone journal.new.entries (block_of block.new) ≡ undone journal.old.entries (block_of block.old) }
-    ensures undoable { IsUndoable journal.new.entries (block_of block.new) }
-    ensures err { OnErr result ((block_of block.new ≡ block_of block.old) × (journal.new.entries ≡ journal.old.entries)) }
-{
-    let noted = step.try_clone()?;
-    journal.reserve()?;
-    let memo = apply(block, step, moves);
-    journal.push(noted, memo);
-    Ok(())
 }

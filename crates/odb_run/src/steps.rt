@@ -1,52 +1,114 @@
-ghost use Rattle.std.specs.Prelude.{◌≡◌, ◌≤◌};
-ghost use Rattle.odb_run.specs.Blocks.{block_of};
-ghost use Rattle.odb_run.specs.Edits.{step_block};
-ghost use Rattle.odb_run.specs.Journal.{CanTakeBack, IsUndoable, taken_back, undone};
-ghost use Rattle.odb_run.specs.Planning.{HasNextId};
+ghost use Rattle.std.specs.Prelude.{◌≡◌, ◌∷◌, ◌++◌, ◌+◌, [], None, true, false, IfOk, OnErr, OnOk, length};
+ghost use Rattle.block_store.specs.Store.{Store};
+ghost use Rattle.steps_net.specs.Can.{Can};
+ghost use Rattle.steps_net.specs.Room.{IsReady, lacks};
+ghost use Rattle.odb_run.specs.Journal.{IsFront, IsUndoable, steps_of, undone};
+ghost use Rattle.odb_run.specs.Machine.{after_steps};
 
-use crate::block::{Block, NetRec};
-use crate::edit_words::{Memo, Step};
 use crate::journal::Journal;
+use block_steps::{apply, make_room, room_back, unapply};
+use block_store::{Block, Database, RoomFault};
+use edit_words::Step;
+use library::Library;
 use odb_base::Steps;
+use std::alloc::AllocError;
 use std::sync::ledger::Ledger;
 
-/// Does a step, and answers what it moved out of the block.
-pub fn apply<L: Ledger>(block: &mut Block, step: Step, moves: &mut Steps<L>) -> Memo
-    requires id { HasNextId step (block_of block.old) }
-    requires room { 1 ≤ block.old.nets.spare }
-    ensures block { block_of block.new ≡ step_block step (block_of block.old) }
-    ensures cap { block.new.nets.cap ≡ block.old.nets.cap }
-    ensures can { CanTakeBack step result (block_of block.new) }
-    ensures back { taken_back step result (block_of block.new) ≡ block_of block.old }
+// Makes room in memory for a step for which the tables have room.
+fn memory_for(block: &mut Block, library: &Library, step: &Step) -> Result<(), AllocError>
+    requires { lacks step.now block.old.cap block.old.block ≡ None }
+    ensures ready { OnOk result (IsReady step.now block.new) }
+    ensures block { block.new.block ≡ block.old.block }
+    ensures cap { block.new.cap ≡ block.old.cap }
 {
-    match step {
-        Step::NewNet { id: _, name } => {
-            let taken = block.nets.take(NetRec { name }, moves);
-            Memo::NewNet { grew: taken.grew }
-        }
+    match make_room(block, library, step) {
+        Ok(()) => Ok(()),
+        Err(RoomFault::Memory) => Err(AllocError),
+        Err(RoomFault::Full { .. }) => unreachable!(),
     }
 }
 
-/// Takes a step back.
-pub fn unapply<L: Ledger>(block: &mut Block, step: Step, memo: Memo, moves: &mut Steps<L>)
-    requires { CanTakeBack step memo (block_of block.old) }
-    ensures block { block_of block.new ≡ taken_back step memo (block_of block.old) }
-    ensures cap { block.new.nets.cap ≡ block.old.nets.cap }
+/// Does a step that can be done and for which the tables have room. For want of memory nothing is done.
+pub fn do_unnoted<L: Ledger>(
+    db: &mut Database,
+    step: Step,
+    moves: &mut Steps<L>,
+) -> Result<(), AllocError>
+    requires can { Can db.old.library db.old.block step }
+    requires room { lacks step db.old.cap db.old.block ≡ None }
+    ensures ok { OnOk result (db.new ≡ after_steps (step ∷ []) db.old) }
+    ensures err { OnErr result (db.new ≡ db.old) }
 {
-    match (step, memo) {
-        (Step::NewNet { id, name: _ }, Memo::NewNet { grew }) => {
-            block.nets.untake(id.0, grew, moves);
-        }
-    }
+    memory_for(&mut db.block, &db.library, &step)?;
+    apply(&mut db.block, &db.tech, &db.library, step, moves);
+    Ok(())
 }
 
-/// Takes the steps of a journal back, from the last to the first.
-pub fn unapply_all<L: Ledger>(block: &mut Block, mut journal: Journal, moves: &mut Steps<L>)
-    requires { IsUndoable journal.entries (block_of block.old) }
-    ensures block { block_of block.new ≡ undone journal.entries (block_of block.old) }
-    ensures cap { block.new.nets.cap ≡ block.old.nets.cap }
+/// Does a step that can be done and for which the tables have room, and notes it in the journal. For want of
+/// memory nothing is done.
+pub fn do_noted<L: Ledger>(
+    db: &mut Database,
+    journal: &mut Journal,
+    step: Step,
+    moves: &mut Steps<L>,
+) -> Result<(), AllocError>
+    requires can { Can db.old.library db.old.block step }
+    requires room { lacks step db.old.cap db.old.block ≡ None }
+    requires undoable { IsUndoable db.old journal.old.entries db.old.block }
+    ensures ok { OnOk result (db.new ≡ after_steps (step ∷ []) db.old) }
+    ensures noted { OnOk result (steps_of journal.new.entries ≡ steps_of journal.old.entries ++ step ∷ []) }
+    ensures copy { undone journal.new.entries db.new.block ≡ undone journal.old.entries db.old.block }
+    ensures undoable { IsUndoable db.new journal.new.entries db.new.block }
+    ensures err { OnErr result ((db.new ≡ db.old) × (journal.new.entries ≡ journal.old.entries)) }
 {
-    while let Some(entry) = journal.pop() {
-        unapply(block, entry.step, entry.memo, moves);
+    memory_for(&mut db.block, &db.library, &step)?;
+    let noted = step.try_clone()?;
+    journal.reserve()?;
+    let memo = apply(&mut db.block, &db.tech, &db.library, step, moves);
+    journal.push(noted, memo);
+    Ok(())
+}
+
+/// Takes the steps of a journal back, from the last to the first. For want of memory the first of them are left,
+/// and the database is the one that they led to.
+pub fn undo_all<L: Ledger>(
+    db: &mut Database,
+    journal: &mut Journal,
+    moves: &mut Steps<L>,
+) -> Result<(), AllocError>
+    requires { IsUndoable db.old journal.old.entries db.old.block }
+    ensures ok { OnOk result (db.new ≡ record db.old { block = undone journal.old.entries db.old.block }) }
+    ensures undoable { IsUndoable db.new journal.new.entries db.new.block }
+    ensures copy { undone journal.new.entries db.new.block ≡ undone journal.old.entries db.old.block }
+    ensures same { db.new ≡ record db.old { block = db.new.block } }
+    ensures front { IsFront journal.new.entries journal.old.entries }
+{
+    'steps: while undo_last(db, journal, moves)? {}
+    Ok(())
+}
+
+// Takes the last step of a journal back, if there is one.
+fn undo_last<L: Ledger>(
+    db: &mut Database,
+    journal: &mut Journal,
+    moves: &mut Steps<L>,
+) -> Result<bool, AllocError>
+    requires { IsUndoable db.old journal.old.entries db.old.block }
+    ensures more { IfOk result (λ more. more ≡ true → length journal.old.entries ≡ length journal.new.entries + 1) }
+    ensures over { IfOk result (λ more. more ≡ false → journal.new.entries ≡ []) }
+    ensures undoable { IsUndoable db.new journal.new.entries db.new.block }
+    ensures copy { undone journal.new.entries db.new.block ≡ undone journal.old.entries db.old.block }
+    ensures same { db.new ≡ record db.old { block = db.new.block } }
+    ensures front { IsFront journal.new.entries journal.old.entries }
+{
+    let Some(entry) = journal.pop() else {
+        return Ok(false);
+    };
+    let tag = entry.step.tag();
+    if let Err(refused) = room_back(&mut db.block, tag, &entry.memo) {
+        journal.push(entry.step, entry.memo);
+        return Err(refused);
     }
+    unapply(&mut db.block, &db.tech, &db.library, tag, entry.memo, moves);
+    Ok(true)
 }

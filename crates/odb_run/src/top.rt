@@ -1,10 +1,12 @@
-ghost use Rattle.std.specs.Prelude.{◌≡◌, ◌≢◌, ◌-◌, ◌<◌, ◌≤◌, ◌^◌, [], IfOk, IsSomeAnd, IsTrue, length};
+ghost use Rattle.std.specs.Prelude.{◌≡◌, ◌≢◌, ◌-◌, ◌<◌, ◌≤◌, ◌^◌, None, IfOk, IfSome, IsSome, IsSomeAnd, IsTrue, length};
 ghost use Rattle.odb_outside.specs.Outside.{Rose};
 ghost use Rattle.odb_run.specs.Headline.{IsAnswered, RunsToldAs};
 ghost use Rattle.odb_run.specs.Machine.{start};
 ghost use Rattle.odb_run.specs.Running.{HasFaultCause, ended, first_run};
-ghost use Rattle.odb_run.specs.declared.run.TheConstants.{MAX_SLOTS};
+ghost use Rattle.odb_run.specs.Options.{slots_of};
+ghost use Rattle.block_store.specs.declared.block.TheConstants.{SLOT_LIMIT};
 
+use crate::options::slots;
 use crate::run::{PIECE, Run};
 use crate::status::Status;
 use crate::stop::Stop;
@@ -21,7 +23,8 @@ pub const SCRIPT_LIMIT: usize = 1 << 30;
 ///
 /// With `Done` or `Refused`, `out` has gained the replies of the copying machine to all lines of the script,
 /// and `Refused` says that one of them is a refusal. After any other status what was written is a prefix of
-/// these replies. The lawful command line is the empty list of words.
+/// these replies. The lawful command line is the empty list of words, or `--slots` and a number from 1 to
+/// 16,777,215: the greatest number of slots that a table may have, which is also taken where none is given.
 pub fn odb_main<S: Source, K: Sink>(
     alloc: Global,
     words: &[Text],
@@ -30,44 +33,47 @@ pub fn odb_main<S: Source, K: Sink>(
 ) -> Status
     requires script_ready { IsTrue (S.ready script.old) }
     requires out_ready { IsTrue (K.ready out.old) }
-    ensures runs { RunsToldAs (start MAX_SLOTS) result (S.left script.old) (K.held out.old) (K.held out.new) }
+    ensures runs { IfSome (slots_of words.now)
+        (λ cap. RunsToldAs (start cap) result (S.left script.old) (K.held out.old) (K.held out.new)) }
 
     // Why a status comes.
-    ensures usage { words.now ≢ [] → result ≡ Status.Usage }
-    ensures lawful { words.now ≡ [] → result ≢ Status.Usage }
+    ensures usage { slots_of words.now ≡ None → result ≡ Status.Usage }
+    ensures lawful { IsSome (slots_of words.now) → result ≢ Status.Usage }
     ensures untouched { result ≡ Status.Usage → (script.new ≡ script.old) × (out.new ≡ out.old) }
     ensures script_fault { result ≡ Status.ScriptFault → Rose (S.faults script.old) (S.faults script.new) }
     ensures out_fault { result ≡ Status.OutFault → Rose (K.faults out.old) (K.faults out.new) }
 
     // Where nothing is in the way, the whole script is answered.
-    ensures complete { words.now ≡ [] → ¬ Rose (S.faults script.old) (S.faults script.new) → ¬ Rose (K.faults out.old) (K.faults out.new)
+    ensures complete { IsSome (slots_of words.now) → ¬ Rose (S.faults script.old) (S.faults script.new) → ¬ Rose (K.faults out.old) (K.faults out.new)
         → IsSomeAnd (S.left script.old) (λ bytes. length bytes ≤ 2 ^ 30) → IsAnswered result }
 {
-    if !words.is_empty() {
-        return Status::Usage;
+    match slots(words) {
+        Some(cap) => run_counted::<S, K, Brand>(alloc, cap, script, out, Blank::new(1)),
+        None => Status::Usage,
     }
-    run_counted::<S, K, Brand>(alloc, script, out, Blank::new(1))
 }
 
 // Runs the script over a counter of steps of its own.
 fn run_counted<S: Source, K: Sink, L: Ledger>(
     alloc: Global,
+    cap: u32,
     script: &mut S,
     out: &mut K,
     blank: Blank,
 ) -> Status
+    requires cap { cap ≤ SLOT_LIMIT }
     requires script_ready { IsTrue (S.ready script.old) }
     requires out_ready { IsTrue (K.ready out.old) }
     requires name { blank.name ≡ L.name }
     requires parts { blank.parts ≡ L.parts }
     requires some { blank.parts ≡ 1 }
-    ensures runs { RunsToldAs (start MAX_SLOTS) result (S.left script.old) (K.held out.old) (K.held out.new) }
+    ensures runs { RunsToldAs (start cap) result (S.left script.old) (K.held out.old) (K.held out.new) }
     ensures lawful { result ≢ Status.Usage }
     ensures script_fault { result ≡ Status.ScriptFault → Rose (S.faults script.old) (S.faults script.new) }
     ensures out_fault { result ≡ Status.OutFault → Rose (K.faults out.old) (K.faults out.new) }
 {
     let mut moves = Steps::<L>::new(blank);
-    match run_script(alloc, script, out, &mut moves) {
+    match run_script(alloc, cap, script, out, &mut moves) {
         Ok(false) => Status::Done,
         Ok(true) => Status::Refused,
         Err(stop) => stop.status(),
@@ -77,18 +83,20 @@ fn run_counted<S: Source, K: Sink, L: Ledger>(
 // Runs the script, and says whether some line was refused.
 fn run_script<S: Source, K: Sink, L: Ledger>(
     alloc: Global,
+    cap: u32,
     script: &mut S,
     out: &mut K,
     moves: &mut Steps<L>,
 ) -> Result<bool, Stop>
+    requires cap { cap ≤ SLOT_LIMIT }
     requires script_ready { IsTrue (S.ready script.old) }
     requires out_ready { IsTrue (K.ready out.old) }
-    ensures runs { RunsToldAs (start MAX_SLOTS) (ended result) (S.left script.old) (K.held out.old) (K.held out.new) }
+    ensures runs { RunsToldAs (start cap) (ended result) (S.left script.old) (K.held out.old) (K.held out.new) }
     ensures script_cause { HasFaultCause (S.faults script.old) (S.faults script.new) result Stop.ScriptFault }
     ensures out_cause { HasFaultCause (K.faults out.old) (K.faults out.new) result Stop.OutFault }
 {
-    let mut run = Run::new(alloc);
     let mut buffer = zeros(alloc, PIECE)?;
+    let mut run = Run::new(alloc, cap)?;
     take_pieces(alloc, &mut run, &mut buffer, script, out, moves)
 }
 
