@@ -1,0 +1,126 @@
+-- The forms of LEF's statements: what begins in which section, and which places follow.
+use Rattle.std.specs.Prelude.{List, [], ◌∷◌, ℕ, Option, Some, None, if◌then◌else◌}
+use Rattle.lef_forms.specs.declared.form.Extent.{Extent}
+use Rattle.lef_forms.specs.declared.form.Extent.TheVariants as extent
+use Rattle.lef_forms.specs.declared.form.Form.{Form}
+use Rattle.lef_forms.specs.declared.form.Form.TheVariants as form
+use Rattle.lef_forms.specs.declared.form.Section.{Section}
+use Rattle.lef_forms.specs.declared.form.Section.TheVariants as section
+use Rattle.lef_forms.specs.declared.form.Statement.{Statement}
+use Rattle.lef_forms.specs.declared.form.Statement.TheVariants as statement
+use Rattle.lef_forms.specs.declared.keyword.Keyword.{Keyword}
+use Rattle.lef_forms.specs.declared.keyword.Keyword.TheVariants as keyword
+use Rattle.lef_forms.specs.declared.place.Place.{Place}
+use Rattle.lef_forms.specs.declared.place.Place.TheVariants as place
+use Rattle.lef_forms.specs.declared.word_set.WordSet.TheVariants as set
+use Rattle.lef_forms.specs.Keywords.{is}
+
+-- a first word, and what it begins
+abbrev pub Row : Type 0
+Row = Keyword × Form
+
+-- the word begins this statement, or a part that is passed over so far
+abbrev pub taken : Statement → Form
+taken s = form.Taken s
+
+abbrev pub passed : Extent → Form
+passed e = form.Passed e
+
+-- what begins in which section
+abbrev pub rows_of : Section → List Row
+rows_of section.Top =
+    (keyword.Units, taken statement.Units) ∷
+    (keyword.Layer, taken statement.Layer) ∷
+    (keyword.Via, taken statement.Via) ∷
+    (keyword.Site, taken statement.Site) ∷
+    (keyword.Macro, taken statement.Macro) ∷
+    (keyword.PropertyDefinitions, passed (extent.EndOf keyword.PropertyDefinitions)) ∷
+    (keyword.Spacing, passed (extent.EndOf keyword.Spacing)) ∷
+    (keyword.ViaRule, passed extent.EndOfName) ∷
+    (keyword.NonDefaultRule, passed extent.EndOfName) ∷
+    (keyword.Array, passed extent.EndOfName) ∷
+    []
+rows_of section.Units =
+    (keyword.Database, taken statement.Database) ∷
+    []
+rows_of section.Layer =
+    (keyword.Type, taken statement.LayerType) ∷
+    (keyword.Direction, taken statement.LayerDirection) ∷
+    (keyword.Pitch, taken statement.Pitch) ∷
+    (keyword.Width, taken statement.Width) ∷
+    (keyword.Spacing, taken statement.Spacing) ∷
+    (keyword.AcCurrentDensity, passed extent.CurrentDensity) ∷
+    (keyword.DcCurrentDensity, passed extent.CurrentDensity) ∷
+    []
+rows_of section.Via =
+    (keyword.Layer, taken statement.ViaLayer) ∷
+    (keyword.Rect, taken statement.Rect) ∷
+    []
+rows_of section.Site =
+    (keyword.Class, taken statement.SiteClass) ∷
+    (keyword.Symmetry, taken statement.Symmetry) ∷
+    (keyword.Size, taken statement.Size) ∷
+    []
+rows_of section.Macro =
+    (keyword.Class, taken statement.MacroClass) ∷
+    (keyword.Foreign, taken statement.Foreign) ∷
+    (keyword.Origin, taken statement.Origin) ∷
+    (keyword.Size, taken statement.Size) ∷
+    (keyword.Symmetry, taken statement.Symmetry) ∷
+    (keyword.Site, taken statement.MacroSite) ∷
+    (keyword.Pin, taken statement.Pin) ∷
+    (keyword.Obs, taken statement.Obs) ∷
+    (keyword.Density, passed extent.End) ∷
+    (keyword.Timing, passed (extent.EndOf keyword.Timing)) ∷
+    []
+rows_of section.Pin =
+    (keyword.Direction, taken statement.PinDirection) ∷
+    (keyword.Use, taken statement.PinUse) ∷
+    (keyword.Port, taken statement.Port) ∷
+    []
+rows_of section.Port =
+    (keyword.Layer, taken statement.ShapeLayer) ∷
+    (keyword.Rect, taken statement.Rect) ∷
+    []
+rows_of section.Obs =
+    (keyword.Layer, taken statement.ShapeLayer) ∷
+    (keyword.Rect, taken statement.Rect) ∷
+    []
+
+-- the places behind a statement's first word
+abbrev pub places_of : Statement → List Place
+places_of statement.Units = []
+places_of statement.Layer = place.Name ∷ []
+places_of statement.Via = place.Name ∷ place.Maybe keyword.Default ∷ place.Maybe keyword.Generated ∷ place.Maybe keyword.TopOfStackOnly ∷ []
+places_of statement.Site = place.Name ∷ []
+places_of statement.Macro = place.Name ∷ []
+places_of statement.Database = place.Key keyword.Microns ∷ place.PerMicron ∷ place.End ∷ []
+places_of statement.LayerType = place.OneOf set.LayerType ∷ place.End ∷ []
+places_of statement.LayerDirection = place.OneOf set.LayerDirection ∷ place.End ∷ []
+places_of statement.Pitch = place.Number ∷ place.MaybeNumber ∷ place.End ∷ []
+places_of statement.Width = place.Number ∷ place.End ∷ []
+places_of statement.Spacing = place.Number ∷ place.Through ∷ []
+places_of statement.ViaLayer = place.Name ∷ place.End ∷ []
+places_of statement.ShapeLayer = place.Name ∷ place.Through ∷ []
+places_of statement.Rect = place.Group keyword.Mask 1 ∷ place.Number ∷ place.Number ∷ place.Number ∷ place.Number ∷ place.Number ∷ place.End ∷ []
+places_of statement.SiteClass = place.OneOf set.SiteClass ∷ place.End ∷ []
+places_of statement.Symmetry = place.OneOf set.Symmetry ∷ place.More set.Symmetry ∷ place.End ∷ []
+places_of statement.Size = place.Number ∷ place.Key keyword.By ∷ place.Number ∷ place.End ∷ []
+places_of statement.MacroClass = place.OneOf set.Any ∷ place.More set.Any ∷ place.End ∷ []
+places_of statement.Foreign = place.OneOf set.Any ∷ place.More set.Any ∷ place.End ∷ []
+places_of statement.Origin = place.Number ∷ place.Number ∷ place.End ∷ []
+places_of statement.MacroSite = place.Name ∷ place.Through ∷ []
+places_of statement.Pin = place.Name ∷ []
+places_of statement.Obs = []
+places_of statement.PinDirection = place.Group keyword.Output 2 ∷ place.Maybe keyword.Tristate ∷ place.End ∷ place.OneOf set.PinDirection ∷ place.End ∷ []
+places_of statement.PinUse = place.OneOf set.PinUse ∷ place.End ∷ []
+places_of statement.Port = []
+
+-- what a first word begins by these rows
+abbrev pub form_in : List Row → List ℕ → Option Form
+form_in [] word = None
+form_in (row ∷ rows) word = if is row.0 word then Some row.1 else form_in rows word
+
+-- what a first word begins in a section, where it begins anything but a statement that is passed over
+unfoldable pub form_of : Section → List ℕ → Option Form
+form_of s word = if is keyword.BeginExt word then Some (passed extent.Extension) else form_in (rows_of s) word
