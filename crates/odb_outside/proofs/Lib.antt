@@ -1,3 +1,6 @@
+pub mod FileLaws
 pub mod Growing
 pub mod Pieces
+pub mod Placed
 pub mod Schedules
+pub mod Sinks

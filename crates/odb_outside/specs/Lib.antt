@@ -1,5 +1,10 @@
+pub mod Adapters
 pub mod Calls
+pub mod Files
 pub mod Memory
 pub mod Outside
+pub mod Placing
 pub mod Reading
+pub mod Shelved
+pub mod Shelves
 pub mod Writing

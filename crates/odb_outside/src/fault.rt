@@ -16,6 +16,15 @@ pub enum WriteFault {
     Memory,
 }
 
+/// Why a file isn't opened.
+#[derive(Clone, Copy, Debug, PartialEq, Eq)]
+pub enum OpenFault {
+    /// There is no file of that name.
+    NoFile,
+    /// The object failed, and has counted the fault.
+    Failed,
+}
+
 impl From<AllocError> for WriteFault {
     ghost from_gives = { λ _ e. e ≡ Memory };
 

@@ -1,4 +1,8 @@
+ghost use Rattle.std.specs.Prelude.{◌≡◌};
+ghost use Rattle.odb_outside.specs.declared.shelf.Hand.{Hand as AnyHand};
+
 use super::*;
+use std::process::Abort;
 use std::test::Fail;
 
 #[test]
@@ -33,5 +37,57 @@ fn a_sink_takes_bytes_in_pieces(rt: HostRuntime) -> Result<(), Fail> {
     assert_eq!(rt; write_all(&mut sink, b"efg"), Ok(()));
     assert_eq!(rt; write_all(&mut sink, b""), Ok(()));
     assert!(rt; sink.bytes() == b"abcdefg".as_slice());
+    Ok(())
+}
+
+// Writes a file whole.
+fn write_file(rt: &impl Abort, shelf: &mut MemoryShelf, name: &str, bytes: &[u8])
+    requires { shelf.old.hand ≡ Hand.Nothing }
+    ensures { shelf.new.hand ≡ Hand.Nothing }
+{
+    assert!(rt; shelf.create(name).is_ok());
+    assert!(rt; write_all(&mut ShelfSink::new(shelf), bytes).is_ok());
+    assert!(rt; shelf.close().is_ok());
+}
+
+// Reads the first bytes of a file.
+fn reads(rt: &impl Abort, shelf: &mut MemoryShelf, name: &str, wanted: &[u8])
+    requires { shelf.old.hand ≡ Hand.Nothing }
+    ensures { shelf.new.hand ≡ Hand.Nothing }
+{
+    let mut room = [b'.'; 4];
+    assert!(rt; shelf.open(name).is_ok());
+    assert!(rt; ShelfSource::new(shelf).read(&mut room).is_ok());
+    assert!(rt; room.as_slice() == wanted);
+    assert!(rt; shelf.close().is_ok());
+}
+
+#[test]
+fn a_shelf_keeps_its_files(rt: HostRuntime) -> Result<(), Fail> {
+    let alloc = rt.alloc();
+    let mut shelf = MemoryShelf::new(alloc, 3, Vec::new(alloc));
+    write_file(&rt, &mut shelf, "b", b"12345");
+    write_file(&rt, &mut shelf, "a", b"xy");
+    reads(&rt, &mut shelf, "b", b"123.");
+    reads(&rt, &mut shelf, "a", b"xy..");
+    write_file(&rt, &mut shelf, "b", b"");
+    shelf.put("c", b"z".to_vec(alloc)?)?;
+    reads(&rt, &mut shelf, "c", b"z...");
+    assert!(rt; shelf.file("b") == Some(b"".as_slice()));
+    assert!(rt; shelf.file("d").is_none());
+    assert_eq!(rt; shelf.open("d"), Err(OpenFault::NoFile));
+    Ok(())
+}
+
+#[test]
+fn a_shelf_fails_at_its_calls(rt: HostRuntime) -> Result<(), Fail> {
+    let alloc = rt.alloc();
+    let mut shelf = MemoryShelf::new(alloc, 3, vec![in alloc; 1, 4]?);
+    assert_eq!(rt; shelf.create("a"), Err(WriteFault::Failed));
+    assert!(rt; shelf.file("a").is_none());
+    assert_eq!(rt; shelf.create("a"), Ok(()));
+    assert_eq!(rt; shelf.write(b"wxyz"), Ok(3));
+    assert_eq!(rt; shelf.write(b"z"), Err(WriteFault::Failed));
+    assert!(rt; shelf.file("a") == Some(b"wxy".as_slice()));
     Ok(())
 }
