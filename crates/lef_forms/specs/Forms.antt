@@ -28,6 +28,7 @@ passed e = form.Passed e
 
 -- what begins in which section
 abbrev pub rows_of : Section → List Row
+-- outside all sections
 rows_of section.Top =
     (keyword.Units, taken statement.Units) ∷
     (keyword.Layer, taken statement.Layer) ∷
@@ -40,9 +41,11 @@ rows_of section.Top =
     (keyword.NonDefaultRule, passed extent.EndOfName) ∷
     (keyword.Array, passed extent.EndOfName) ∷
     []
+-- UNITS .. END UNITS
 rows_of section.Units =
     (keyword.Database, taken statement.Database) ∷
     []
+-- LAYER name .. END name
 rows_of section.Layer =
     (keyword.Type, taken statement.LayerType) ∷
     (keyword.Direction, taken statement.LayerDirection) ∷
@@ -52,15 +55,18 @@ rows_of section.Layer =
     (keyword.AcCurrentDensity, passed extent.CurrentDensity) ∷
     (keyword.DcCurrentDensity, passed extent.CurrentDensity) ∷
     []
+-- VIA name .. END name
 rows_of section.Via =
     (keyword.Layer, taken statement.ViaLayer) ∷
     (keyword.Rect, taken statement.Rect) ∷
     []
+-- SITE name .. END name
 rows_of section.Site =
     (keyword.Class, taken statement.SiteClass) ∷
     (keyword.Symmetry, taken statement.Symmetry) ∷
     (keyword.Size, taken statement.Size) ∷
     []
+-- MACRO name .. END name
 rows_of section.Macro =
     (keyword.Class, taken statement.MacroClass) ∷
     (keyword.Foreign, taken statement.Foreign) ∷
@@ -73,47 +79,76 @@ rows_of section.Macro =
     (keyword.Density, passed extent.End) ∷
     (keyword.Timing, passed (extent.EndOf keyword.Timing)) ∷
     []
+-- PIN name .. END name, in a macro
 rows_of section.Pin =
     (keyword.Direction, taken statement.PinDirection) ∷
     (keyword.Use, taken statement.PinUse) ∷
     (keyword.Port, taken statement.Port) ∷
     []
+-- PORT .. END, in a pin
 rows_of section.Port =
     (keyword.Layer, taken statement.ShapeLayer) ∷
     (keyword.Rect, taken statement.Rect) ∷
     []
+-- OBS .. END, in a macro
 rows_of section.Obs =
     (keyword.Layer, taken statement.ShapeLayer) ∷
     (keyword.Rect, taken statement.Rect) ∷
     []
 
--- the places behind a statement's first word
+-- The places behind a statement's first word. Each stands under its form; `..` are words that aren't looked at.
 abbrev pub places_of : Statement → List Place
+-- UNITS
 places_of statement.Units = []
+-- LAYER name
 places_of statement.Layer = place.Name ∷ []
+-- VIA name [DEFAULT] [GENERATED] [TOPOFSTACKONLY]
 places_of statement.Via = place.Name ∷ place.Maybe keyword.Default ∷ place.Maybe keyword.Generated ∷ place.Maybe keyword.TopOfStackOnly ∷ []
+-- SITE name
 places_of statement.Site = place.Name ∷ []
+-- MACRO name
 places_of statement.Macro = place.Name ∷ []
+-- DATABASE MICRONS n ;
 places_of statement.Database = place.Key keyword.Microns ∷ place.PerMicron ∷ place.End ∷ []
+-- TYPE w ;
 places_of statement.LayerType = place.OneOf set.LayerType ∷ place.End ∷ []
+-- DIRECTION w ;
 places_of statement.LayerDirection = place.OneOf set.LayerDirection ∷ place.End ∷ []
+-- PITCH a [b] ;
 places_of statement.Pitch = place.Number ∷ place.MaybeNumber ∷ place.End ∷ []
+-- WIDTH a ;
 places_of statement.Width = place.Number ∷ place.End ∷ []
+-- SPACING a .. ;
 places_of statement.Spacing = place.Number ∷ place.Through ∷ []
+-- LAYER name ;
 places_of statement.ViaLayer = place.Name ∷ place.End ∷ []
+-- LAYER name .. ;
 places_of statement.ShapeLayer = place.Name ∷ place.Through ∷ []
+-- RECT [MASK n] x y x y ;
 places_of statement.Rect = place.Group keyword.Mask 1 ∷ place.Number ∷ place.Number ∷ place.Number ∷ place.Number ∷ place.Number ∷ place.End ∷ []
+-- CLASS w ;
 places_of statement.SiteClass = place.OneOf set.SiteClass ∷ place.End ∷ []
+-- SYMMETRY w.. ;
 places_of statement.Symmetry = place.OneOf set.Symmetry ∷ place.More set.Symmetry ∷ place.End ∷ []
+-- SIZE w BY h ;
 places_of statement.Size = place.Number ∷ place.Key keyword.By ∷ place.Number ∷ place.End ∷ []
+-- CLASS w.. ;
 places_of statement.MacroClass = place.OneOf set.Any ∷ place.More set.Any ∷ place.End ∷ []
+-- FOREIGN w.. ;
 places_of statement.Foreign = place.OneOf set.Any ∷ place.More set.Any ∷ place.End ∷ []
+-- ORIGIN x y ;
 places_of statement.Origin = place.Number ∷ place.Number ∷ place.End ∷ []
+-- SITE name .. ;
 places_of statement.MacroSite = place.Name ∷ place.Through ∷ []
+-- PIN name
 places_of statement.Pin = place.Name ∷ []
+-- OBS
 places_of statement.Obs = []
+-- DIRECTION OUTPUT [TRISTATE] ; or DIRECTION w ;
 places_of statement.PinDirection = place.Group keyword.Output 2 ∷ place.Maybe keyword.Tristate ∷ place.End ∷ place.OneOf set.PinDirection ∷ place.End ∷ []
+-- USE w ;
 places_of statement.PinUse = place.OneOf set.PinUse ∷ place.End ∷ []
+-- PORT
 places_of statement.Port = []
 
 -- what a first word begins by these rows
