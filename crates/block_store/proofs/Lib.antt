@@ -8,5 +8,5 @@ pub mod Naming
 pub mod Places
 pub mod Shown
 pub mod Slots
-pub mod Tables
+pub mod TableLemmas
 pub mod Upward

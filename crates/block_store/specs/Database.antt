@@ -12,6 +12,7 @@ use Rattle.library.specs.declared.mterm.MTerm.{MTerm}
 use Rattle.block_store.specs.declared.block.TheConstants.{SLOT_LIMIT}
 use Rattle.block_store.specs.Block.{Block, empty_block}
 use Rattle.block_store.specs.Sound.{IsSound}
+use Rattle.block_store.specs.Store.{Store}
 
 pub record Database : Type 0 where
   pub tech : Technology
@@ -22,6 +23,10 @@ pub record Database : Type 0 where
 -- the database without masters and objects
 abbrev pub empty_database : ℕ → Database
 empty_database cap = record { tech = empty_technology; library = []; block = empty_block new_header; cap = cap }
+
+-- the database of a technology, a library, and a block with its cap
+abbrev pub database_of : Technology → List Master → Store → Database
+database_of technology masters store = record { tech = technology; library = masters; block = store.block; cap = store.cap }
 
 -- a terminal of a master has a lawful name; there are no layers for shapes yet
 pub record IsMTerm (t : MTerm) : Type 0 where

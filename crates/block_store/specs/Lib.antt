@@ -11,5 +11,6 @@ pub mod Moves
 pub mod NameLaws
 pub mod Names
 pub mod Places
+pub mod PlainTables
 pub mod Sound
 pub mod Store

@@ -2,10 +2,12 @@ ghost use Rattle.std.specs.Prelude.{◌≡◌, ◌≤◌, ◌<◌, ◌+◌, [], 
 ghost use Rattle.odb_base.specs.declared.codes.kind.Kind.{Kind as AnyKind};
 ghost use Rattle.block_records.specs.Header.{new_header};
 ghost use Rattle.block_store.specs.Block.{empty_block, free_in, left_in, live_in, slots_in};
+ghost use Rattle.block_store.specs.PlainTables.{AreTables};
 ghost use Rattle.block_store.specs.Store.{ChangesRoom, IsRoomBounded, room_of};
 
 use crate::entry::{BTermEntry, GroupEntry, InstEntry, NetEntry, RegionEntry, RowEntry};
 use crate::fault::RoomFault;
+use crate::tables::Tables;
 use block_records::{BlockageRec, Header, ITermRec, PinRec, PropRec, TrackRec, WireRec};
 use odb_base::Kind;
 use slot_pool::{PoolFault, SlotPool};
@@ -102,6 +104,48 @@ impl Block {
             region: SlotPool::new(alloc, cap),
             group: SlotPool::new(alloc, cap),
             prop: SlotPool::new(alloc, cap),
+            cap,
+            spare: Vec::new(alloc),
+        })
+    }
+
+    /// The block of these tables, each of which has to be good, with at most `cap` slots; the cap is at most
+    /// [`SLOT_LIMIT`].
+    pub fn with_tables(alloc: Global, tables: Tables, cap: u32) -> Result<Block, AllocError>
+        requires good { AreTables cap tables }
+        requires limit { cap ≤ SLOT_LIMIT }
+        ensures block { IfOk result (λ b. b.block ≡ tables) }
+        ensures cap { IfOk result (λ b. b.cap ≡ cap) }
+    {
+        let Tables {
+            header,
+            inst,
+            iterm,
+            net,
+            bterm,
+            pin,
+            row,
+            track,
+            wire,
+            blockage,
+            region,
+            group,
+            prop,
+        } = tables;
+        Ok(Block {
+            header,
+            inst: inst.into_pool(cap)?,
+            iterm: iterm.into_pool(cap)?,
+            net: net.into_pool(cap)?,
+            bterm: bterm.into_pool(cap)?,
+            pin: pin.into_pool(cap)?,
+            row: row.into_pool(cap)?,
+            track: track.into_pool(cap)?,
+            wire: wire.into_pool(cap)?,
+            blockage: blockage.into_pool(cap)?,
+            region: region.into_pool(cap)?,
+            group: group.into_pool(cap)?,
+            prop: prop.into_pool(cap)?,
             cap,
             spare: Vec::new(alloc),
         })

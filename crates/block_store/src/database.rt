@@ -31,7 +31,7 @@ impl Model for Database {
 }
 
 impl Database {
-    ghost use Rattle.block_store.specs.Database.{IsMaster, empty_database};
+    ghost use Rattle.block_store.specs.Database.{IsMaster, IsSoundDatabase, database_of, empty_database};
 
     /// The database without masters and objects, whose tables have at most `cap` slots each, at most
     /// [`SLOT_LIMIT`](crate::block::SLOT_LIMIT).
@@ -44,6 +44,18 @@ impl Database {
             library: Library::new(alloc),
             block: Block::new(alloc, cap)?,
         })
+    }
+
+    /// The database of these parts, which have to be sound together.
+    pub fn of_parts(tech: Tech, library: Library, block: Block) -> Database
+        requires { IsSoundDatabase (database_of tech library block) }
+        ensures { result ≡ database_of tech library block }
+    {
+        Database {
+            tech,
+            library,
+            block,
+        }
     }
 
     /// Puts a lawful master last in the library, and gives its id. A refusal leaves the database as it was.

@@ -43,6 +43,13 @@ impl Ids {
         }
     }
 
+    /// The list of the identifiers of a vector, the front first. It takes no memory.
+    pub fn from_vec(items: Vec<u32>) -> Ids
+        ensures { result ≡ items.items }
+    {
+        Ids { items }
+    }
+
     /// The identifiers, the front first.
     pub fn items(&self) -> &[u32]
         ensures { result.now ≡ self.now }

@@ -12,6 +12,9 @@
 //! vector: to enter or to leave it moves the members that stand behind, and a full one moves whole. [`Block::walk`],
 //! [`Block::ids`] and [`Block::free_ids`] take no memory.
 //!
+//! [`Block::with_tables`] makes a block of [`Tables`], plain vectors of slots and free identifiers. It judges nothing
+//! but what it asks for: whether the block is sound is for the crate `block_tables`.
+//!
 //! The calls keep tables good, and ask that no name comes twice in a kind and that no object goes while it stands in
 //! a list. They don't keep a list and the field by which a member names the list's object in step: `link` changes
 //! the one and `set_net` the other. That, and what a design means, is for the crates above.
@@ -34,6 +37,7 @@ pub mod names;
 pub mod next;
 pub mod objects;
 pub mod records;
+pub mod tables;
 pub mod walk;
 
 pub use block::{Block, SLOT_LIMIT};
@@ -46,6 +50,8 @@ pub use lawful::is_lawful_master;
 pub use laws::names_and_finding;
 pub use list_of::ListOf;
 pub use live::Live;
+pub use names::Named;
+pub use tables::{PlainTable, Tables};
 pub use walk::Walk;
 
 #[cfg(test)]

@@ -6,10 +6,11 @@ use crate::entry::{BTermEntry, GroupEntry, InstEntry, NetEntry, RegionEntry, Row
 use odb_base::{Kind, Name};
 use slot_pool::SlotPool;
 
-// An object with a name.
-pub(crate) trait Named {
+/// An object with a name.
+pub trait Named {
     ghost own_name: { Self → List ℕ };
 
+    /// The name.
     fn name(&self) -> &Name
         ensures { result.now ≡ own_name self.now };
 }

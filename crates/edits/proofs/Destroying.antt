@@ -24,7 +24,7 @@ use Rattle.block_store.specs.Sound.{IsSound, bterm_net, inst_terms, iterm_net, n
 use Rattle.block_store.proofs.Held.{held_names}
 use Rattle.block_store.proofs.Joined.{from_one, some_is}
 use Rattle.block_store.proofs.Shown.{live_on, live_record, none_live, view_at_on, view_other_on}
-use Rattle.block_store.proofs.Tables.{at_on}
+use Rattle.block_store.proofs.TableLemmas.{at_on}
 use Rattle.steps_net.specs.Can.{CanPart}
 use Rattle.steps_net.specs.Do.{do_step}
 use Rattle.steps_net.proofs.Joining.{sound_part}

@@ -29,7 +29,7 @@ use Rattle.block_store.specs.Moves.{new_bterm}
 use Rattle.block_store.proofs.Joined.{shown_by}
 use Rattle.block_store.proofs.Naming.{free_names_are_not_found}
 use Rattle.block_store.proofs.Shown.{live_record}
-use Rattle.block_store.proofs.Tables.{at_taken}
+use Rattle.block_store.proofs.TableLemmas.{at_taken}
 use Rattle.steps_net.specs.Can.{Can, CanName, inst_master}
 use Rattle.steps_net.specs.Do.{do_step, fresh_bterm}
 use Rattle.steps_net.specs.Room.{lacks}

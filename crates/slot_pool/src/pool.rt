@@ -1,4 +1,4 @@
-ghost use Rattle.std.specs.Prelude.{◌≡◌, ◌↔◌, ◌+◌, ◌-◌, ◌<◌, ◌≤◌, ◌^◌, [], true, IsTrue, IsSome, OnOk, length, option_copied, vec_capacity};
+ghost use Rattle.std.specs.Prelude.{◌≡◌, ◌↔◌, ◌+◌, ◌-◌, ◌<◌, ◌≤◌, ◌^◌, [], true, IsTrue, IsSome, IfOk, OnOk, length, option_copied, vec_capacity};
 ghost use Rattle.std.specs.Borrow.{sem};
 ghost use Rattle.std.specs.Option.Follows.{option_follows_value};
 ghost use Rattle.slot_pool.specs.Table.{record_in, is_vacant, with_slot};
@@ -6,7 +6,7 @@ ghost use Rattle.slot_pool.specs.Table.{record_in, is_vacant, with_slot};
 use crate::fault::PoolFault;
 use crate::free_ids::FreeIds;
 use odb_base::Steps;
-use std::alloc::Global;
+use std::alloc::{AllocError, Global};
 use std::marker::Model;
 use std::sync::ledger::Ledger;
 
@@ -53,6 +53,25 @@ impl<T> SlotPool<T> {
             free: Vec::new(alloc),
             cap,
         }
+    }
+
+    /// The pool with these slots, these free ids, top first, and this cap. The table has to be good, with at
+    /// most `cap` slots. It takes memory only for ids that will be free.
+    pub fn from_parts(
+        slots: Vec<Option<T>>,
+        mut free: Vec<u32>,
+        cap: u32,
+    ) -> Result<SlotPool<T>, AllocError>
+    where
+        T: Drop,
+        requires good { IsGood (record { slots = slots.items; free = free.items }) }
+        requires within { length slots.items ≤ cap }
+        ensures table { IfOk result (λ pool. pool.table ≡ record { slots = slots.items; free = free.items }) }
+        ensures cap { IfOk result (λ pool. pool.cap ≡ cap) }
+    {
+        free.reverse();
+        free.reserve(slots.len() - free.len())?;
+        Ok(SlotPool { slots, free, cap })
     }
 
     /// The greatest number of slots.

@@ -21,7 +21,7 @@ use Rattle.block_store.specs.Moves.{new_inst}
 use Rattle.block_store.specs.Sound.{ArePlaced, IsInst, IsSound, inst_terms, iterm_net, iterm_place}
 use Rattle.block_store.proofs.Joined.{iterm_outside, shown_by, some_is}
 use Rattle.block_store.proofs.Shown.{LiveRecord, each_given, live_by, live_record, name_gone, named_given, table_given}
-use Rattle.block_store.proofs.Tables.{at_given, at_given_other, back_given}
+use Rattle.block_store.proofs.TableLemmas.{at_given, at_given_other, back_given}
 use Rattle.steps_net.specs.Back.{Came, back, memo_of, removed, undeleted}
 use Rattle.steps_net.specs.Can.{AreUnjoined, CanDel}
 use Rattle.steps_net.specs.Do.{do_step, fresh_iterm, terms_given, terms_taken}

@@ -18,7 +18,7 @@ use Rattle.block_store.specs.Moves.{new_inst}
 use Rattle.block_store.specs.Sound.{ArePlaced, IsInst, IsPlacement, IsSound, IsTable, inst_terms, iterm_net, iterm_place, unplaced}
 use Rattle.block_store.proofs.Joined.{iterm_outside, shown_by, some_is}
 use Rattle.block_store.proofs.Shown.{each_taken, named_taken, table_taken}
-use Rattle.block_store.proofs.Tables.{at_next, at_taken, at_taken_other, back_taken, can_untake}
+use Rattle.block_store.proofs.TableLemmas.{at_next, at_taken, at_taken_other, back_taken, can_untake}
 use Rattle.steps_net.specs.Back.{Came, back, grew_of, grown_of, memo_of, terms_untaken}
 use Rattle.steps_net.specs.Can.{AreNext, CanNewInst}
 use Rattle.steps_net.specs.Do.{do_step, fresh_inst, fresh_iterm, terms_taken}

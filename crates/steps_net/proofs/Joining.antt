@@ -24,7 +24,7 @@ use Rattle.block_store.specs.Sound.{AreHeld, HasNoOthers, IsBTerm, IsNet, IsSoun
 use Rattle.block_store.proofs.Held.{held_beside, held_linked, held_unlinked, placed_stands, times_without_other}
 use Rattle.block_store.proofs.Joined.{Shows, bterm_inside, bterm_enters, bterms_apart, from_one, iterm_enters, iterm_inside, iterms_apart, kinds_apart, net_of_member, net_shown, none_is, shown_by, some_is, terms_distinct}
 use Rattle.block_store.proofs.Shown.{each_on, live_by, live_on, live_record, named_stands, table_on, view_at_on, view_on, view_other_on}
-use Rattle.block_store.proofs.Tables.{on_on, on_same}
+use Rattle.block_store.proofs.TableLemmas.{on_on, on_same}
 use Rattle.steps_net.specs.Can.{CanJoin, CanPart}
 use Rattle.steps_net.specs.Terms.{IsJoinable, IsJoined}
 

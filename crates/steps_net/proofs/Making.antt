@@ -23,7 +23,7 @@ use Rattle.block_store.specs.Sound.{IsBTerm, IsNet, IsSound, bterm_net, net_term
 use Rattle.block_store.proofs.Changed.{bterm_changed, net_changed}
 use Rattle.block_store.proofs.Joined.{bterm_outside, net_shown, shown_by}
 use Rattle.block_store.proofs.Shown.{each_given, each_taken, live_by, live_record, name_gone, named_given, named_taken, table_given, table_taken, view_given, view_taken}
-use Rattle.block_store.proofs.Tables.{at_next, at_taken, back_given, back_taken, can_untake}
+use Rattle.block_store.proofs.TableLemmas.{at_next, at_taken, back_given, back_taken, can_untake}
 use Rattle.steps_net.specs.Back.{record_moved, removed, undeleted}
 use Rattle.steps_net.specs.Can.{CanDel, CanName}
 use Rattle.steps_net.specs.Do.{deleted, fresh_bterm, fresh_net}

@@ -24,7 +24,7 @@ use Rattle.block_store.specs.Sound.{IsBTerm, IsBTermDirection, IsInst, IsNet, Is
 use Rattle.block_store.proofs.Changed.{bterm_changed, inst_changed, net_changed}
 use Rattle.block_store.proofs.Joined.{some_is}
 use Rattle.block_store.proofs.Shown.{each_on, live_on, live_record, name_left, named_on, named_stands, none_live, table_on, view_on}
-use Rattle.block_store.proofs.Tables.{on_on, on_same, set_back}
+use Rattle.block_store.proofs.TableLemmas.{on_on, on_same, set_back}
 use Rattle.steps_net.specs.Can.{CanPlace, CanRename, CanSetUse}
 
 -- the changes of the fields of an instance, a net and a block terminal

@@ -19,7 +19,7 @@ use Rattle.block_store.specs.Lists.{list_in, on_record}
 use Rattle.block_store.specs.Sound.{AreEach, ArePlaced, IsInst, IsSound, inst_terms, iterm_net, iterm_place, term_count}
 use Rattle.block_store.proofs.Joined.{none_is, shown_by, some_is}
 use Rattle.block_store.proofs.Shown.{LiveRecord, each_on, live_by, live_on, live_record, named_stands, table_on, view_on}
-use Rattle.block_store.proofs.Tables.{at_on, at_on_other, on_on, on_same}
+use Rattle.block_store.proofs.TableLemmas.{at_on, at_on_other, on_on, on_same}
 use Rattle.steps_net.specs.Back.{Came, back, master_of, memo_of, terminals_moved}
 use Rattle.steps_net.specs.Can.{CanSwap, HaveSameTerms, inst_master}
 use Rattle.steps_net.specs.Do.{do_step, fresh_iterm, reordered, reordered_by, swapped, terms_given}

@@ -14,7 +14,7 @@ use Rattle.block_store.specs.Sound.{IsTable, inst_terms}
 use Rattle.block_store.specs.Store.{Store}
 use Rattle.block_store.proofs.Joined.{net_shown, none_is, some_is}
 use Rattle.block_store.proofs.Shown.{live_on, table_on, view_on}
-use Rattle.block_store.proofs.Tables.{at_on, at_on_other, slots_on}
+use Rattle.block_store.proofs.TableLemmas.{at_on, at_on_other, slots_on}
 use Rattle.steps_net.specs.Back.{master_of}
 use Rattle.steps_net.specs.Do.{swapped, terms_indexed}
 use Rattle.steps_net.proofs.InstancesLoops.{with_iterm}
