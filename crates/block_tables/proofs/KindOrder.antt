@@ -1,0 +1,65 @@
+-- The kinds in the order of their codes.
+use Rattle.std.proofs.Common.{◌≡◌, ◌+◌, ◌-◌, ◌<◌, ◌≤◌, zero, suc, List, ℕ, get_or, length, refl, sym, ap, ◌∙◌, arith, lit≤}
+use Rattle.odb_base.specs.Kind.{kind_code, kinds}
+use Rattle.odb_base.specs.declared.codes.kind.Kind.{Kind}
+use Rattle.odb_base.specs.declared.codes.kind.Kind.TheVariants as kind
+
+-- a kind stands at its code's place
+place_of : (k : Kind) → get_or kinds (kind_code k - 1) kind.Inst ≡ k
+place_of kind.Inst = refl
+place_of kind.ITerm = refl
+place_of kind.Net = refl
+place_of kind.BTerm = refl
+place_of kind.Pin = refl
+place_of kind.Row = refl
+place_of kind.Track = refl
+place_of kind.Wire = refl
+place_of kind.Blockage = refl
+place_of kind.Region = refl
+place_of kind.Group = refl
+place_of kind.Prop = refl
+
+pub codes_within : (k : Kind) → kind_code k ≤ 12
+codes_within kind.Inst = lit≤ tt
+codes_within kind.ITerm = lit≤ tt
+codes_within kind.Net = lit≤ tt
+codes_within kind.BTerm = lit≤ tt
+codes_within kind.Pin = lit≤ tt
+codes_within kind.Row = lit≤ tt
+codes_within kind.Track = lit≤ tt
+codes_within kind.Wire = lit≤ tt
+codes_within kind.Blockage = lit≤ tt
+codes_within kind.Region = lit≤ tt
+codes_within kind.Group = lit≤ tt
+codes_within kind.Prop = lit≤ tt
+
+-- no two kinds have one code
+pub same_kind : (j k : Kind) → kind_code j ≡ kind_code k → j ≡ k
+same_kind j k same = sym (place_of j) ∙ ap (λ n. get_or kinds (n - 1) kind.Inst) same ∙ place_of k
+
+-- the kind at a place has the code after it
+code_at : (i : ℕ) → i < 12 → kind_code (get_or kinds i kind.Inst) ≡ i + 1
+code_at zero within = refl
+code_at (suc zero) within = refl
+code_at (suc (suc zero)) within = refl
+code_at (suc (suc (suc zero))) within = refl
+code_at (suc (suc (suc (suc zero)))) within = refl
+code_at (suc (suc (suc (suc (suc zero))))) within = refl
+code_at (suc (suc (suc (suc (suc (suc zero)))))) within = refl
+code_at (suc (suc (suc (suc (suc (suc (suc zero))))))) within = refl
+code_at (suc (suc (suc (suc (suc (suc (suc (suc zero)))))))) within = refl
+code_at (suc (suc (suc (suc (suc (suc (suc (suc (suc zero))))))))) within = refl
+code_at (suc (suc (suc (suc (suc (suc (suc (suc (suc (suc zero)))))))))) within = refl
+code_at (suc (suc (suc (suc (suc (suc (suc (suc (suc (suc (suc zero))))))))))) within = refl
+code_at (suc (suc (suc (suc (suc (suc (suc (suc (suc (suc (suc (suc i)))))))))))) within = absurd (omega arith)
+
+pub code_of_item : (items : List Kind) (i : ℕ) → items ≡ kinds → i < length items → kind_code (get_or items i kind.Inst) ≡ i + 1
+code_of_item items i is within =
+    let long : length items ≡ 12 = ap length is in
+    ap (λ xs. kind_code (get_or xs i kind.Inst)) is ∙ code_at i (omega (arith, long, within))
+
+-- behind the last kind all codes are passed
+pub all_passed : (items : List Kind) (i : ℕ) → items ≡ kinds → length items ≤ i → (k : Kind) → kind_code k ≤ i
+all_passed items i is past k =
+    let long : length items ≡ 12 = ap length is in
+    omega (arith, long, past, codes_within k)

@@ -1,0 +1,12 @@
+pub mod Aloneness
+pub mod Beyond
+pub mod Counts
+pub mod GoodTables
+pub mod KindOrder
+pub mod Made
+pub mod Masters
+pub mod NewHeaders
+pub mod Parts
+pub mod PartsOfSound
+pub mod SoundOfParts
+pub mod Standings

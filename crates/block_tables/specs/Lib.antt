@@ -1,0 +1,12 @@
+pub mod Causes
+pub mod Counting
+pub mod Indexes
+pub mod Laws
+pub mod Names
+pub mod Places
+pub mod Prepared
+pub mod RuleBlockTerminals
+pub mod RuleInstances
+pub mod RuleNets
+pub mod RuleTerminals
+pub mod Rules

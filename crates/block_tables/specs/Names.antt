@@ -1,0 +1,9 @@
+-- Names that no two objects of a table hold.
+use Rattle.std.specs.Prelude.{◌≡◌, List, ℕ, Some}
+use Rattle.slot_pool.specs.Table.{Table}
+use Rattle.block_store.specs.Names.{name_by}
+
+module _ {A : Type 0} where
+  -- no other object of the table has the name
+  abbrev pub IsAlone : (A → List ℕ) → Table A → ℕ → List ℕ → Type 0
+  IsAlone name_of t id name = (other : ℕ) → name_by name_of other t ≡ Some name → other ≡ id

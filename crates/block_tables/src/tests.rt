@@ -1,0 +1,153 @@
+use super::*;
+use block_records::{BTermRec, Header, NetRec};
+use block_store::{BTermEntry, Block, Ids, NetEntry, PlainTable, Tables};
+use library::Library;
+use odb_base::{Direction, Kind, Name, Text, Usage};
+use std::alloc::{AllocError, Global};
+use std::test::Fail;
+use tech::Tech;
+
+type Place = Option<(Option<Kind>, u32)>;
+
+#[test]
+fn free_lists(rt: HostRuntime) -> Result<(), Fail> {
+    let alloc = rt.alloc();
+    assert_eq!(rt; with_free(alloc, vec![in alloc; 2]?)?, None);
+    let table = Some((Some(Kind::Net), 0));
+    assert_eq!(rt; with_free(alloc, Vec::new(alloc))?, table);
+    assert_eq!(rt; with_free(alloc, vec![in alloc; 2, 2]?)?, table);
+    assert_eq!(rt; with_free(alloc, vec![in alloc; 2, 1]?)?, table);
+    assert_eq!(rt; with_free(alloc, vec![in alloc; 2, 3]?)?, table);
+    Ok(())
+}
+
+// A net, and an empty slot.
+fn with_free(alloc: Global, free: Vec<u32>) -> Result<Place, Fail> {
+    let nets = vec![in alloc; Some(net(alloc, b"a", Vec::new(alloc))?), None]?;
+    judged(alloc, tables(alloc, nets, free, Vec::new(alloc))?)
+}
+
+#[test]
+fn names_and_lists(rt: HostRuntime) -> Result<(), Fail> {
+    let alloc = rt.alloc();
+    assert_eq!(rt; with_list(alloc, b"b", vec![in alloc; 3]?, 1)?, None);
+    // The lesser of two nets of one name.
+    assert_eq!(rt;
+        with_list(alloc, b"a", vec![in alloc; 3]?, 1)?,
+        Some((Some(Kind::Net), 1))
+    );
+    // A terminal that its net doesn't have, has twice, or has though it names another net.
+    assert_eq!(rt;
+        with_list(alloc, b"b", Vec::new(alloc), 1)?,
+        Some((Some(Kind::BTerm), 1))
+    );
+    assert_eq!(rt;
+        with_list(alloc, b"b", vec![in alloc; 3, 3]?, 1)?,
+        Some((Some(Kind::Net), 1))
+    );
+    assert_eq!(rt;
+        with_list(alloc, b"b", vec![in alloc; 3]?, 2)?,
+        Some((Some(Kind::Net), 1))
+    );
+    // A terminal that isn't there, and a net that isn't there.
+    assert_eq!(rt;
+        with_list(alloc, b"b", vec![in alloc; 2]?, 0)?,
+        Some((Some(Kind::Net), 1))
+    );
+    assert_eq!(rt;
+        with_list(alloc, b"b", Vec::new(alloc), 3)?,
+        Some((Some(Kind::BTerm), 1))
+    );
+    Ok(())
+}
+
+// Two nets, `a` with this list and one of this name without terminals, and a terminal of the block.
+fn with_list(alloc: Global, name: &[u8], terms: Vec<u32>, joined: u32) -> Result<Place, Fail> {
+    let first = net(alloc, b"a", terms)?;
+    let second = net(alloc, name, Vec::new(alloc))?;
+    let nets = vec![in alloc; Some(first), Some(second)]?;
+    let bterms = vec![in alloc; Some(bterm(alloc, joined)?)]?;
+    judged(alloc, tables(alloc, nets, Vec::new(alloc), bterms)?)
+}
+
+#[test]
+fn headers(rt: HostRuntime) -> Result<(), Fail> {
+    let alloc = rt.alloc();
+    let mut named = tables(alloc, Vec::new(alloc), Vec::new(alloc), Vec::new(alloc))?;
+    named.header.design = Text::new(alloc, b"top")?;
+    assert_eq!(rt; judged(alloc, named)?, Some((None, 0)));
+    Ok(())
+}
+
+// The least place that isn't sound.
+fn judged(alloc: Global, tables: Tables) -> Result<Place, Fail> {
+    if !fits(&tables, 100) {
+        return Ok(None);
+    }
+    match Block::from_tables(alloc, tables, &Tech::new(alloc), &Library::new(alloc), 100) {
+        Ok(_) => Ok(None),
+        Err(TablesFault::Unsound { kind, id }) => Ok(Some((kind, id))),
+        Err(TablesFault::Memory) => Err(TablesFault::Memory)?,
+    }
+}
+
+fn net(alloc: Global, name: &[u8], terms: Vec<u32>) -> Result<NetEntry, Fail> {
+    Ok(NetEntry {
+        fields: NetRec {
+            name: Name::new(alloc, name)?,
+            usage: Usage::Signal,
+            special: false,
+            kept: Text::new(alloc, b"")?,
+            special_kept: Text::new(alloc, b"")?,
+        },
+        terms: Ids::from_vec(terms),
+        wires: Ids::new(alloc),
+        props: Ids::new(alloc),
+    })
+}
+
+fn bterm(alloc: Global, net: u32) -> Result<BTermEntry, Fail> {
+    Ok(BTermEntry {
+        fields: BTermRec {
+            name: Name::new(alloc, b"t")?,
+            net,
+            direction: Direction::Input,
+            usage: Usage::Signal,
+            kept: Text::new(alloc, b"")?,
+        },
+        pins: Ids::new(alloc),
+    })
+}
+
+fn tables(
+    alloc: Global,
+    nets: Vec<Option<NetEntry>>,
+    free: Vec<u32>,
+    bterms: Vec<Option<BTermEntry>>,
+) -> Result<Tables, AllocError> {
+    Ok(Tables {
+        header: Header::new(alloc)?,
+        inst: empty(alloc),
+        iterm: empty(alloc),
+        net: PlainTable { slots: nets, free },
+        bterm: PlainTable {
+            slots: bterms,
+            free: Vec::new(alloc),
+        },
+        pin: empty(alloc),
+        row: empty(alloc),
+        track: empty(alloc),
+        wire: empty(alloc),
+        blockage: empty(alloc),
+        region: empty(alloc),
+        group: empty(alloc),
+        prop: empty(alloc),
+    })
+}
+
+fn empty<T>(alloc: Global) -> PlainTable<T> {
+    PlainTable {
+        slots: Vec::new(alloc),
+        free: Vec::new(alloc),
+    }
+}
