@@ -60,7 +60,7 @@ impl<'a> Get<'a> {
         ensures end { IfErr result (λ cut. cut ≡ cut_of self.old) }
         ensures stays { OnErr result (self.new ≡ self.old) }
     {
-        let field = self.take(1)?;
+        let field = self.get_bytes(1)?;
         Ok(field[0])
     }
 
@@ -74,7 +74,7 @@ impl<'a> Get<'a> {
         ensures end { IfErr result (λ cut. cut ≡ cut_of self.old) }
         ensures stays { OnErr result (self.new ≡ self.old) }
     {
-        let field = self.take(4)?;
+        let field = self.get_bytes(4)?;
         Ok(LittleEndian::read_u32(field))
     }
 
@@ -88,7 +88,7 @@ impl<'a> Get<'a> {
         ensures end { IfErr result (λ cut. cut ≡ cut_of self.old) }
         ensures stays { OnErr result (self.new ≡ self.old) }
     {
-        let field = self.take(8)?;
+        let field = self.get_bytes(8)?;
         Ok(LittleEndian::read_u64(field))
     }
 
@@ -102,7 +102,7 @@ impl<'a> Get<'a> {
         ensures end { IfErr result (λ cut. cut ≡ cut_of self.old) }
         ensures stays { OnErr result (self.new ≡ self.old) }
     {
-        let field = self.take(4)?;
+        let field = self.get_bytes(4)?;
         Ok(LittleEndian::read_i32(field))
     }
 
@@ -118,12 +118,12 @@ impl<'a> Get<'a> {
         ensures stays { OnErr result (self.new ≡ self.old) }
     {
         let count = LittleEndian::read_u32(self.next(4)?) as usize;
-        let field = self.take(4 + count)?;
+        let field = self.get_bytes(4 + count)?;
         Ok(&field[4..])
     }
 
-    // Reads the next `n` bytes.
-    fn take(&mut self, n: usize) -> Result<&'a [u8], Cut>
+    /// Reads the next `n` bytes, and lends them: they stay in the input.
+    pub fn get_bytes(&mut self, n: usize) -> Result<&'a [u8], Cut>
         ensures value { IfOk result (λ field. bytes_at n self.old ≡ Ok (field.now, self.new)) }
         ensures taken { IfOk result (λ field. Takes self.old field.now self.new) }
         ensures length { IfOk result (λ field. length field.now ≡ n) }

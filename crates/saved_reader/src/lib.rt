@@ -1,0 +1,36 @@
+//! Reading a saved database from its bytes: what they spell, or the first fault from the front.
+//!
+//! [`read_saved`] reads a mark, the version, a technology, the masters of a library, the header of a block and its
+//! twelve tables. A field is read and then judged by its set, its limit and its rule alone; one that isn't lawful is
+//! [`ReadFault::BadField`] at the place where it begins. The length of a text is judged before its bytes are looked
+//! for, and the number of a list's items before the items. A rule over several fields of a rectangle, a placement or a
+//! row is broken by the later of the fields that disagree. Whether what was read fits together (names, identifiers,
+//! lists and free identifiers) isn't judged.
+//!
+//! The definitions say of the record of each of the twelve kinds what its fields are and in which order they are read;
+//! they are put together of the readings of single fields. Objects of eight kinds are still to come: until then their
+//! tables have no slots and no free identifiers, the header is that of a new block, a list that only they can fill is
+//! empty, and so are kept words, the code of a wire and the value of a property.
+//!
+//! Reading takes time for the bytes, and memory for what was read: a number of items that the bytes don't hold takes
+//! none.
+#![tactic(auto)]
+
+pub mod fault;
+pub mod fields;
+pub mod grouping;
+pub mod lists;
+pub mod masters;
+pub mod objects;
+pub mod parts;
+pub mod physical;
+pub mod reading;
+pub mod saved;
+pub mod tables;
+
+pub use fault::ReadFault;
+pub use reading::read_saved;
+pub use saved::Saved;
+
+#[cfg(test)]
+mod tests;

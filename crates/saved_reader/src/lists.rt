@@ -1,0 +1,145 @@
+ghost use Rattle.std.specs.Prelude.{Result};
+ghost use Rattle.odb_fields.specs.Reading.{Cursor};
+ghost use Rattle.saved_reader.specs.declared.fault.ReadFault.{ReadFault as Fault};
+ghost use Rattle.saved_reader.specs.Fields.{id_at};
+ghost use Rattle.saved_reader.specs.Parts.{filled_list_at, ids_at, list_at, no_list_at, option_at, rect_at, term_at};
+ghost use Rattle.saved_reader.specs.Reading.{Reads, ReadsAs, many_at};
+
+use crate::fault::ReadFault;
+use crate::fields::{get_flag, get_id, get_number};
+use crate::parts::{get_rect, get_term};
+use block_store::Ids;
+use odb_base::{List, Rect};
+use odb_fields::Get;
+use std::alloc::Global;
+
+/// What stands in the saved stream as an item of a list.
+pub trait Spelled: Drop {
+    ghost reads: { Cursor → Result (Self × Cursor) Fault };
+
+    /// Reads an item.
+    fn get(alloc: Global, input: &mut Get<'_>) -> Result<Self, ReadFault>
+        ensures { Reads result (reads input.old) input.new };
+}
+
+impl Spelled for u32 {
+    ghost reads = { id_at };
+
+    fn get(_alloc: Global, input: &mut Get<'_>) -> Result<u32, ReadFault> {
+        get_id(input)
+    }
+}
+
+impl Spelled for Rect {
+    ghost reads = { rect_at };
+
+    fn get(_alloc: Global, input: &mut Get<'_>) -> Result<Rect, ReadFault> {
+        get_rect(input)
+    }
+}
+
+impl<T: Spelled> Spelled for Option<T> {
+    ghost reads = { option_at T.reads };
+
+    #[tactic(auto, unfolding(crate::specs::Parts::option_at))]
+    fn get(alloc: Global, input: &mut Get<'_>) -> Result<Option<T>, ReadFault> {
+        if get_flag(input)? {
+            Ok(Some(T::get(alloc, input)?))
+        } else {
+            Ok(None)
+        }
+    }
+}
+
+/// Reads so many items. Room is made as they come, and not for all that are said to.
+pub fn get_many<T: Spelled>(
+    alloc: Global,
+    input: &mut Get<'_>,
+    count: u32,
+) -> Result<Vec<T>, ReadFault>
+    ensures { ReadsAs (λ items. items.items) result (many_at count T.reads input.old) input.new }
+{
+    let mut items = Vec::new(alloc);
+    for _ in 0..count {
+        let item = T::get(alloc, input)?;
+        items.push(item)?;
+    }
+    Ok(items)
+}
+
+/// Reads a list of at most so many items. Their number is judged before they are looked for.
+#[tactic(auto, unfolding(crate::specs::Parts::list_at))]
+pub fn get_list<T: Spelled>(
+    alloc: Global,
+    input: &mut Get<'_>,
+    most: u32,
+) -> Result<List<T>, ReadFault>
+    ensures { Reads result (list_at most T.reads input.old) input.new }
+{
+    let count = get_number(input, 0, most)?;
+    let items = get_many(alloc, input, count)?;
+    Ok(List::from_vec(items))
+}
+
+/// Reads a list of at least one item, and of at most so many.
+#[tactic(auto, unfolding(crate::specs::Parts::filled_list_at))]
+pub fn get_filled_list<T: Spelled>(
+    alloc: Global,
+    input: &mut Get<'_>,
+    most: u32,
+) -> Result<List<T>, ReadFault>
+    ensures { Reads result (filled_list_at most T.reads input.old) input.new }
+{
+    let count = get_number(input, 1, most)?;
+    let items = get_many(alloc, input, count)?;
+    Ok(List::from_vec(items))
+}
+
+/// Reads a list of identifiers.
+#[tactic(auto, unfolding(crate::specs::Parts::list_at))]
+pub fn get_ids(alloc: Global, input: &mut Get<'_>) -> Result<Ids, ReadFault>
+    ensures { Reads result (ids_at input.old) input.new }
+{
+    let count = get_number(input, 0, u32::MAX)?;
+    let ids = get_many(alloc, input, count)?;
+    Ok(Ids::from_vec(ids))
+}
+
+/// Reads a list of identifiers that has none yet.
+#[tactic(auto, unfolding(crate::specs::Parts::no_list_at))]
+pub fn get_no_ids(alloc: Global, input: &mut Get<'_>) -> Result<Ids, ReadFault>
+    ensures { Reads result (no_list_at input.old) input.new }
+{
+    let _count = get_number(input, 0, 0)?;
+    Ok(Ids::new(alloc))
+}
+
+/// Reads a list that has no items yet.
+#[tactic(auto, unfolding(crate::specs::Parts::no_list_at))]
+pub fn get_no_list<T>(alloc: Global, input: &mut Get<'_>) -> Result<List<T>, ReadFault>
+    ensures { Reads result (no_list_at input.old) input.new }
+{
+    let _count = get_number(input, 0, 0)?;
+    Ok(List::new(alloc))
+}
+
+/// Reads the terminals of a net.
+#[tactic(auto, unfolding(crate::specs::Parts::list_at))]
+pub fn get_terms(alloc: Global, input: &mut Get<'_>) -> Result<Ids, ReadFault>
+    ensures { Reads result (list_at u32.MAX term_at input.old) input.new }
+{
+    let count = get_number(input, 0, u32::MAX)?;
+    let numbers = get_term_numbers(alloc, input, count)?;
+    Ok(Ids::from_vec(numbers))
+}
+
+fn get_term_numbers(alloc: Global, input: &mut Get<'_>, count: u32) -> Result<Vec<u32>, ReadFault>
+    ensures { ReadsAs (λ numbers. numbers.items) result (many_at count term_at input.old) input.new }
+{
+    let mut numbers = Vec::new(alloc);
+    for _ in 0..count {
+        let number = get_term(input)?;
+        numbers.push(number)?;
+    }
+    Ok(numbers)
+}
