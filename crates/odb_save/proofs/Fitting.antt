@@ -35,12 +35,12 @@ once_most : (b : Bool) → once_if b ≤ 1
 once_most true = omega arith
 once_most false = omega arith
 
-once_true : (b : Bool) → 1 ≤ once_if b → b ≡ true
+pub once_true : (b : Bool) → 1 ≤ once_if b → b ≡ true
 once_true true h = refl
 once_true false h = absurd (omega arith)
 
 -- no more identifiers are free than there are slots
-good_few : {A : Type 0} (t : Table A) → IsGood t → length t.free ≤ length t.slots
+pub good_few : {A : Type 0} (t : Table A) → IsGood t → length t.free ≤ length t.slots
 good_few t good = length-distinct (length t.slots) t.free
     (distinct_times t.free (λ id. omega (arith, good id, once_most (is_vacant t.slots id))))
     (λ id inside.
@@ -80,7 +80,7 @@ master_lawful library id m lawful found = elim (cases_Bool (eqb id 0)) [
   | inr some ↦ lawful.masters (id - 1) m (rw some at found)
 ]
 
-few_terminals : (library : List Master) (id n : ℕ) → IsLibrary library → term_count library id ≡ Some n → n ≤ 65535
+pub few_terminals : (library : List Master) (id n : ℕ) → IsLibrary library → term_count library id ≡ Some n → n ≤ 65535
 few_terminals library id n lawful counted =
     let shown = shown_by (λ m. length m.terminals) (master_at library id) n counted in
     let few = (master_lawful library id shown.value lawful shown.is).few in
@@ -113,7 +113,7 @@ named_within of t id owner some named =
 
 module _ (tech : Technology) (library : List Master) (cap : ℕ) (b : Block) (sound : IsSound tech library cap b) where
   -- the numbers of the terminals of a net
-  terms_up_to : (net : ℕ) → 1 ≤ net → AreUpTo (2 * cap + 1) (net_terms b net)
+  pub terms_up_to : (net : ℕ) → 1 ≤ net → AreUpTo (2 * cap + 1) (net_terms b net)
   terms_up_to net some number inside =
       let held = times_held (net_terms b net) number inside in
       elim (number_is number) [
@@ -129,7 +129,7 @@ module _ (tech : Technology) (library : List Master) (cap : ℕ) (b : Block) (so
             (omega (arith, within.0, odd), omega (arith, within.1, sound.bterm.within, odd))
       ]
 
-  terms_few : (net : ℕ) → 1 ≤ net → length (net_terms b net) ≤ 2 * cap + 1
+  pub terms_few : (net : ℕ) → 1 ≤ net → length (net_terms b net) ≤ 2 * cap + 1
   terms_few net some = length-distinct (2 * cap + 1) (net_terms b net) (terms_distinct tech library cap b sound net some) (terms_up_to net some)
 
 pub net_fits : (d : Database) (id : ℕ) (r : NetRec) → IsSoundDatabase d → Some r ≡ option_map (λ e. e.fields) (record_at d.block.net id) → FitsNet (net_entry id r d.block)

@@ -1,8 +1,12 @@
+pub mod Entering
 pub mod Entries
 pub mod Examples
 pub mod Fits
 pub mod Kinds
 pub mod Library
+pub mod LoadFaults
+pub mod Loading
 pub mod Objects
 pub mod Parts
 pub mod Save
+pub mod Spelled

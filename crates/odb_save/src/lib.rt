@@ -8,13 +8,23 @@
 //! A count has 32 bits. That each list and text of a database is short enough follows from the database being
 //! sound, so no answer says otherwise: the only one besides the bytes is want of memory.
 //!
-//! A save takes time for the slots and the bytes, and memory for the bytes alone. Reading them back isn't here yet.
+//! [`load`] gives the database whose saved bytes are those that it is handed. The crate `saved_reader` reads what bytes
+//! spell, and `block_tables` judges whether that is sound. That the bytes of a sound database are read as that
+//! database, and that no other bytes are, are laws of this crate ([`saved_bytes_are_read`],
+//! [`read_bytes_are_saved`]). Bytes that no database has are refused by a [`LoadFault`], and there is one answer to the
+//! same bytes and cap ([`loading_is_determined`]).
+//!
+//! A save takes time for the slots and the bytes, and memory for the bytes alone. A load takes, on average, time for
+//! the bytes and for the terminals of the library's masters, and for each master the square of the number of its
+//! terminals; it takes memory for what was read.
 #![tactic(auto)]
 
 pub mod database;
 mod header;
 pub mod laws;
 mod lists;
+pub mod load_fault;
+pub mod loading;
 mod masters;
 mod objects;
 mod parts;
@@ -22,7 +32,11 @@ mod slots;
 mod tables;
 
 pub use database::save;
-pub use laws::{cap_is_unsaved, examples};
+pub use laws::{
+    cap_is_unsaved, examples, loading_is_determined, read_bytes_are_saved, saved_bytes_are_read,
+};
+pub use load_fault::LoadFault;
+pub use loading::load;
 
 #[cfg(test)]
 mod tests;

@@ -1,0 +1,22 @@
+-- The faults of loading that stand for those of the calls below.
+use Rattle.block_tables.specs.declared.fault.TablesFault.{TablesFault}
+use Rattle.block_tables.specs.declared.fault.TablesFault.TheVariants as tables
+use Rattle.saved_reader.specs.declared.fault.ReadFault.{ReadFault}
+use Rattle.saved_reader.specs.declared.fault.ReadFault.TheVariants as read
+use Rattle.odb_save.specs.declared.load_fault.LoadFault.{LoadFault}
+use Rattle.odb_save.specs.declared.load_fault.LoadFault.TheVariants as load
+
+-- that of reading
+abbrev pub of_read : ReadFault → LoadFault
+of_read read.NotSaved = load.NotSaved
+of_read (read.Version got) = load.Version got
+of_read (read.Cut at) = load.Cut at
+of_read (read.BadField at) = load.BadField at
+of_read (read.OverCap kind) = load.OverCap kind
+of_read (read.Trailing at) = load.Trailing at
+of_read read.Memory = load.Memory
+
+-- that of tables
+abbrev pub of_tables : TablesFault → LoadFault
+of_tables (tables.Unsound kind id) = load.Unsound kind id
+of_tables tables.Memory = load.Memory
