@@ -1,16 +1,19 @@
-//! The program `odb`: it reads a script on standard input, and answers each line on standard output.
+//! The program `odb`: it reads a script on standard input, and answers each line on standard output. Files are those of
+//! the current folder.
 #![tactic(auto)]
 
+mod folder_shelf;
 mod standard_input;
 mod standard_output;
 
+use folder_shelf::FolderShelf;
 use odb_base::Text;
 use odb_run::{Status, odb_main};
 use standard_input::StandardInput;
 use standard_output::StandardOutput;
 use std::io::ErrorKind;
 use std::process::ExitCode;
-use std::rt::Env;
+use std::rt::{Env, Files};
 use std::{env, io};
 
 fn main(rt: HostRuntime) -> ExitCode {
@@ -21,14 +24,15 @@ fn main(rt: HostRuntime) -> ExitCode {
     ExitCode::from(status as u8)
 }
 
-fn run<R: Env + Input + Print + AllocGlobal>(rt: &R) -> Status {
+fn run<R: Env + Files + Input + Print + AllocGlobal>(rt: &R) -> Status {
     let words = match words(rt) {
         Ok(words) => words,
         Err(fault) => return status_without_words(fault.kind()),
     };
     let mut script = StandardInput::new(rt.reader());
     let mut out = StandardOutput::new(io::writer(rt));
-    odb_main(rt.alloc(), &words, &mut script, &mut out)
+    let mut shelf = FolderShelf::new(rt);
+    odb_main(rt.alloc(), &words, &mut script, &mut out, &mut shelf)
 }
 
 // The status where the words can't be had. One that isn't UTF-8 is on no lawful command line.
@@ -55,6 +59,7 @@ fn message(status: Status) -> Option<&'static str> {
         Status::Usage => Some("bad arguments"),
         Status::ScriptFault => Some("reading the script failed"),
         Status::OutFault => Some("writing replies failed"),
+        Status::FileFault => Some("a file failed"),
         Status::ScriptTooLong => Some("the script is too long"),
         Status::Memory => Some("out of memory"),
     }

@@ -1,4 +1,6 @@
 pub mod Accepting
+pub mod Answering
+pub mod Determined
 pub mod JournalLemmas
 pub mod LineLemmas
 pub mod ReplyTexts

@@ -4,11 +4,14 @@ use Rattle.std.proofs.Math.Bool.{or_assoc}
 use Rattle.std.proofs.Math.Seq.{take-append-add, take-append_seam, take-length}
 use Rattle.std.proofs.lemmas.List.Folds.{list_any-append}
 use Rattle.std.proofs.lemmas.List.{take-append-drop, take-append-le}
+use Rattle.odb_outside.specs.Files.{File}
 use Rattle.odb_outside.specs.Writing.{Grows, GrowsByPrefix}
+use Rattle.odb_run.proofs.Answering.{after-append, answers-append, refusal-append, replies-append}
 use Rattle.odb_run.proofs.LineLemmas.{lines-first, lines-last}
+use Rattle.odb_run.specs.Answering.{Answered, IsAnswer, has_refusal, machine_after, replies_of}
 use Rattle.odb_run.specs.Lines.{has_line_end, lines_of}
-use Rattle.odb_run.specs.Machine.{has_refusal, replies}
-use Rattle.odb_run.specs.Running.{EndsLast, Goes, Leads, Running, WritesSome, replied, to_come, to_refuse}
+use Rattle.odb_run.specs.Running.{EndsLast, Finishes, FinishesPart, GivesTold, Goes, IsFinished, IsGone, IsLast, IsPart, IsReplied, Leads, Replied, Running, WritesOn, WritesSome, machine_of}
+use Rattle.odb_run.specs.Told.{IfTold, WhereTold}
 
 -- nothing was written
 pub leads_none : (a : Option (List ℕ)) (x : List ℕ) → Leads a a x x
@@ -74,17 +77,14 @@ pub prefix_none : (a : Option (List ℕ)) (x : List ℕ) → GrowsByPrefix a a x
 prefix_none None x = tt
 prefix_none (Some before) x = (0, omega arith, sym (append-nil before))
 
-module _ (run : Running) (bytes rest : List ℕ) (whole : has_line_end (run.line ++ bytes) ≡ false) where
-  lines-is : lines_of (run.line ++ (bytes ++ 10 ∷ rest)) ≡ (run.line ++ bytes) ∷ lines_of rest
-  lines-is = ap lines_of (sym (append_assoc run.line bytes (10 ∷ rest))) ∙ lines-first (run.line ++ bytes) rest whole
-
-  -- a line that is answered passes from what is to come to what isn't written yet
-  pub to-come-replied : to_come run (bytes ++ 10 ∷ rest) ≡ to_come (replied run (run.line ++ bytes)) rest
-  to-come-replied = ap (λ l. run.unwritten ++ replies run.state l) lines-is ∙ sym (append_assoc run.unwritten _ _)
-
-  -- a refusal to come is one that came
-  pub to-refuse-replied : to_refuse run (bytes ++ 10 ∷ rest) ≡ to_refuse (replied run (run.line ++ bytes)) rest
-  to-refuse-replied = ap (λ l. run.refused || has_refusal run.state l) lines-is ∙ sym (or_assoc run.refused _ _)
+-- more to come stands behind what is left
+pub leads_more : (a b : Option (List ℕ)) (x y more : List ℕ) → Leads a b x y → Leads a b (x ++ more) (y ++ more)
+leads_more None b x y more led = tt
+leads_more (Some before) None x y more led = absurd led
+leads_more (Some before) (Some now) x y more led = record {
+  longer = led.longer;
+  same = sym (append_assoc now y more) ∙ ap (λ (all : List ℕ). all ++ more) led.same ∙ append_assoc before x more;
+}
 
 -- what a slice from a place on passes to a callee
 pub rest-is : (bytes : List ℕ) (place : ℕ) → take (length bytes - place) (drop place bytes) ≡ drop place bytes
@@ -95,79 +95,253 @@ pub on_err : {T E P : Type 0} (result : Result T E) → P → OnErr result P
 on_err (Ok x) p = tt
 on_err (Err e) p = p
 
--- a run that didn't go on
-pub goes_none : (a : Option (List ℕ)) (run : Running) (bytes : List ℕ) → Goes a a run run bytes bytes
-goes_none a run bytes = record { replies = λ rest. leads_none a _; refusals = λ rest. refl }
-
-module _ {a b : Option (List ℕ)} {old mid : Running} {taken left : List ℕ} (goes : Goes a b old mid taken left) where
-  -- nothing more was written
-  pub goes_some : WritesSome a b old taken
-  goes_some rest = leads_prefix a b b _ _ (goes.replies rest) (prefix_none b _)
-
-  -- more was written in part
-  pub goes_prefix : (c : Option (List ℕ)) → WritesSome b c mid [] → WritesSome a c old taken
-  goes_prefix c more rest = leads_prefix a b c _ _ (goes.replies rest) (more (left ++ rest))
-
-  -- more was written
-  pub goes_write : (c : Option (List ℕ)) (new : Running) → Goes b c mid new [] [] → Goes a c old new taken left
-  goes_write c new more = record {
-    replies = λ rest. leads_on a b c _ _ _ (goes.replies rest) (more.replies (left ++ rest));
-    refusals = λ rest. goes.refusals rest ∙ more.refusals (left ++ rest);
-  }
-
-  -- what is left is kept for the next piece
-  pub goes_keep : (new : Running) → new ≡ record mid { line = mid.line ++ left } → Goes a b old new taken []
-  goes_keep new kept = rw kept (record {
-    replies = λ rest. rw (append_assoc mid.line left rest) (goes.replies rest);
-    refusals = λ rest. goes.refusals rest ∙ ap (λ l. mid.refused || has_refusal mid.state (lines_of l)) (sym (append_assoc mid.line left rest));
-  })
-
-  -- a line was answered
-  pub goes_line : (new : Running) (line behind : List ℕ) → left ≡ line ++ 10 ∷ behind → has_line_end mid.line ≡ false → has_line_end line ≡ false → new ≡ replied mid (mid.line ++ line) → Goes a b old new taken behind
-  goes_line new line behind is whole_line whole done =
-      let both = list_any-append (λ (b : ℕ). eqb b 10) mid.line line ∙ rw (whole_line, whole) refl in
-      let regrouped = λ (rest : List ℕ). ap (λ l. l ++ rest) is ∙ append_assoc line (10 ∷ behind) rest in
-      rw done (record {
-        replies = λ rest. subst (λ (x : List ℕ). Leads a b (to_come old (taken ++ rest)) x) (ap (to_come mid) (regrouped rest) ∙ to-come-replied mid line (behind ++ rest) both) (goes.replies rest);
-        refusals = λ rest. goes.refusals rest ∙ ap (to_refuse mid) (regrouped rest) ∙ to-refuse-replied mid line (behind ++ rest) both;
-      })
-
--- the replies were written
-pub goes_written : (a b : Option (List ℕ)) (run new : Running) → Grows a b run.unwritten → new ≡ record run { unwritten = [] } → Goes a b run new [] []
-goes_written a b run new grown cleared =
-    rw cleared (record { replies = λ rest. leads_written a b run.unwritten _ grown; refusals = λ rest. refl })
-
--- the replies were written in part
-pub some_written : (a b : Option (List ℕ)) (run : Running) (bytes : List ℕ) → GrowsByPrefix a b run.unwritten → WritesSome a b run bytes
-some_written a b run bytes grown rest = prefix_of_front a b run.unwritten _ grown
-
 or-false : (b : Bool) → (b || false) ≡ b
 or-false true = refl
 or-false false = refl
 
--- a script without an unfinished line
-pub ends_without : (run : Running) → run.line ≡ [] → EndsLast run run
-ends_without run none = record {
-  line = none;
-  replies = ap (λ l. run.unwritten ++ replies run.state (lines_of (l ++ []))) none ∙ append-nil run.unwritten;
-  refusal = ap (λ l. run.refused || has_refusal run.state (lines_of (l ++ []))) none ∙ or-false run.refused;
+-- ---- files that are told
+
+module _ {P Q : List File → List File → Type 0} where
+  -- a fact that follows from another, where the files are told
+  pub told_map : (was left : Option (List File)) → ((a b : List File) → P a b → Q a b) → WhereTold was left P → WhereTold was left Q
+  told_map None left f p = tt
+  told_map (Some was) None f p = absurd p
+  told_map (Some was) (Some left) f p = f was left p
+
+module _ {P : List File → List File → Type 0} {Q : List File → Type 0} where
+  pub told_first : (was left : Option (List File)) → ((a b : List File) → P a b → Q a) → WhereTold was left P → IfTold was Q
+  told_first None left f p = tt
+  told_first (Some was) None f p = absurd p
+  told_first (Some was) (Some left) f p = f was left p
+
+module _ {P Q R : List File → List File → Type 0} where
+  -- a fact that follows from two, one after the other
+  pub told_then : (was mid left : Option (List File)) → ((a b c : List File) → P a b → Q b c → R a c) → WhereTold was mid P → WhereTold mid left Q → WhereTold was left R
+  told_then None mid left f p q = tt
+  told_then (Some was) None left f p q = absurd p
+  told_then (Some was) (Some mid) None f p q = absurd q
+  told_then (Some was) (Some mid) (Some left) f p q = f was mid left p q
+
+-- a fact of files that stay
+pub told_same : (P : List File → List File → Type 0) (was : Option (List File)) → ((a : List File) → P a a) → WhereTold was was P
+told_same P None f = tt
+told_same P (Some was) f = f was
+
+pub told_all : (P : List File → Type 0) (was : Option (List File)) → ((a : List File) → P a) → IfTold was P
+told_all P None f = tt
+told_all P (Some was) f = f was
+
+-- ---- between two lines
+
+-- a run that didn't go on
+pub gone_none : (a : Option (List ℕ)) (run : Running) (files : List File) (bytes : List ℕ) → IsGone a a run files run files bytes bytes
+gone_none a run files bytes = record {
+  lines = [];
+  script = λ rest. refl;
+  answers = [];
+  answered = tt;
+  machine = refl;
+  replies = subst (λ (x : List ℕ). Leads a a x run.unwritten) (sym (append-nil run.unwritten)) (leads_none a run.unwritten);
+  refused = sym (or-false run.refused);
 }
 
-last-lines : (line : List ℕ) → line ≢ [] → has_line_end line ≡ false → lines_of (line ++ []) ≡ line ∷ []
+-- a run went on twice
+pub gone_then : (a b c : Option (List ℕ)) (old mid new : Running) (was is left : List File) (taken more rest : List ℕ) → IsGone a b old was mid is taken [] → IsGone b c mid is new left more rest → IsGone a c old was new left (taken ++ more) rest
+gone_then a b c old mid new was is left taken more rest first then = record {
+  lines = first.lines ++ then.lines;
+  script = λ behind.
+      ap (λ (all : List ℕ). lines_of (old.line ++ all)) (append_assoc taken more behind)
+      ∙ first.script (more ++ behind)
+      ∙ ap (λ (all : List (List ℕ)). first.lines ++ all) (then.script behind)
+      ∙ sym (append_assoc first.lines then.lines (lines_of (new.line ++ (rest ++ behind))));
+  answers = first.answers ++ then.answers;
+  answered = answers-append (machine_of old was) first.lines then.lines first.answers then.answers first.answered (rw first.machine at then.answered);
+  machine = then.machine ∙ ap (λ m. machine_after m then.answers) first.machine ∙ sym (after-append (machine_of old was) first.answers then.answers);
+  replies = leads_on a b c _ _ _ (regrouped (leads_more a b _ _ (replies_of then.answers) first.replies)) then.replies;
+  refused = then.refused ∙ ap (λ (r : Bool). r || has_refusal then.answers) first.refused ∙ or_assoc old.refused (has_refusal first.answers) (has_refusal then.answers) ∙ ap (λ (r : Bool). old.refused || r) (sym (refusal-append first.answers then.answers));
+} where
+  regrouped : Leads a b ((old.unwritten ++ replies_of first.answers) ++ replies_of then.answers) (mid.unwritten ++ replies_of then.answers) → Leads a b (old.unwritten ++ replies_of (first.answers ++ then.answers)) (mid.unwritten ++ replies_of then.answers)
+  regrouped led = subst (λ (x : List ℕ). Leads a b x (mid.unwritten ++ replies_of then.answers)) (append_assoc old.unwritten (replies_of first.answers) (replies_of then.answers) ∙ ap (λ (x : List ℕ). old.unwritten ++ x) (sym (replies-append first.answers then.answers))) led
+
+-- a line was answered, and the replies so far were written or kept
+pub gone_line : (a b c : Option (List ℕ)) (old mid next new : Running) (was is left : List File) (taken rest line behind : List ℕ) → rest ≡ line ++ 10 ∷ behind → has_line_end mid.line ≡ false → has_line_end line ≡ false → IsReplied mid is (mid.line ++ line) next left → WritesOn b c next new → IsGone a b old was mid is taken rest → IsGone a c old was new left taken behind
+gone_line a b c old mid next new was is left taken rest line behind parts whole_line whole replied writes gone = record {
+  lines = gone.lines ++ (mid.line ++ line) ∷ [];
+  script = λ more.
+      gone.script more
+      ∙ ap (λ (all : List (List ℕ)). gone.lines ++ all) (ap lines_of (ap (λ (l : List ℕ). mid.line ++ (l ++ more)) parts ∙ ap (λ (l : List ℕ). mid.line ++ l) (append_assoc line (10 ∷ behind) more) ∙ sym (append_assoc mid.line line (10 ∷ (behind ++ more)))) ∙ lines-first (mid.line ++ line) (behind ++ more) both)
+      ∙ sym (append_assoc gone.lines ((mid.line ++ line) ∷ []) (lines_of (behind ++ more)))
+      ∙ ap (λ (l : List ℕ). (gone.lines ++ (mid.line ++ line) ∷ []) ++ lines_of (l ++ (behind ++ more))) (sym empty);
+  answers = gone.answers ++ replied.answer ∷ [];
+  answered = answers-append (machine_of old was) gone.lines ((mid.line ++ line) ∷ []) gone.answers (replied.answer ∷ []) gone.answered (rw gone.machine at replied.answered, tt);
+  machine = ap (λ (r : Running). machine_of r left) writes.others ∙ replied.machine ∙ sym (after-append (machine_of old was) gone.answers (replied.answer ∷ []));
+  replies = leads_on a b c _ _ _ led writes.replies;
+  refused = ap (λ (r : Running). r.refused) writes.others ∙ replied.refused ∙ ap (λ (r : Bool). r || replied.answer.refused) gone.refused ∙ or_assoc old.refused (has_refusal gone.answers) replied.answer.refused ∙ ap (λ (r : Bool). old.refused || r) (sym one-refused);
+} where
+  both : has_line_end (mid.line ++ line) ≡ false
+  both = list_any-append (λ (b : ℕ). eqb b 10) mid.line line ∙ rw (whole_line, whole) refl
+
+  empty : new.line ≡ []
+  empty = ap (λ (r : Running). r.line) writes.others ∙ replied.line
+
+  one-text : replies_of (gone.answers ++ replied.answer ∷ []) ≡ replies_of gone.answers ++ replied.answer.text
+  one-text = replies-append gone.answers (replied.answer ∷ []) ∙ ap (λ (x : List ℕ). replies_of gone.answers ++ x) (append-nil replied.answer.text)
+
+  one-refused : has_refusal (gone.answers ++ replied.answer ∷ []) ≡ has_refusal gone.answers || replied.answer.refused
+  one-refused = refusal-append gone.answers (replied.answer ∷ []) ∙ ap (λ (r : Bool). has_refusal gone.answers || r) (or-false replied.answer.refused)
+
+  led : Leads a b (old.unwritten ++ replies_of (gone.answers ++ replied.answer ∷ [])) next.unwritten
+  led =
+      subst (λ (x : List ℕ). Leads a b x next.unwritten) (append_assoc old.unwritten (replies_of gone.answers) replied.answer.text ∙ ap (λ (x : List ℕ). old.unwritten ++ x) (sym one-text))
+      (subst (λ (y : List ℕ). Leads a b ((old.unwritten ++ replies_of gone.answers) ++ replied.answer.text) y) (sym replied.unwritten) (leads_more a b _ _ replied.answer.text gone.replies))
+
+-- more was written or kept
+pub gone_write : (a b c : Option (List ℕ)) (old mid new : Running) (was is : List File) (taken rest : List ℕ) → WritesOn b c mid new → IsGone a b old was mid is taken rest → IsGone a c old was new is taken rest
+gone_write a b c old mid new was is taken rest writes gone = rw writes.others (record {
+  lines = gone.lines;
+  script = gone.script;
+  answers = gone.answers;
+  answered = gone.answered;
+  machine = gone.machine;
+  replies = leads_on a b c _ _ _ gone.replies writes.replies;
+  refused = gone.refused;
+})
+
+-- the replies were written
+pub on_written : (a b : Option (List ℕ)) (run new : Running) → Grows a b run.unwritten → new ≡ record run { unwritten = [] } → WritesOn a b run new
+on_written a b run new grown cleared = record {
+  replies = subst (λ (y : List ℕ). Leads a b run.unwritten y) (sym (ap (λ (r : Running). r.unwritten) cleared)) (subst (λ (x : List ℕ). Leads a b x []) (append-nil run.unwritten) (leads_written a b run.unwritten [] grown));
+  others = cleared ∙ ap (λ (u : List ℕ). record run { unwritten = u }) (sym (ap (λ (r : Running). r.unwritten) cleared));
+}
+
+-- they were kept
+pub on_kept : (a : Option (List ℕ)) (run : Running) → WritesOn a a run run
+on_kept a run = record { replies = leads_none a run.unwritten; others = refl }
+
+-- what is left is kept for the next piece
+pub gone_keep : (a b : Option (List ℕ)) (old mid new : Running) (was is : List File) (taken left : List ℕ) → new ≡ record mid { line = mid.line ++ left } → IsGone a b old was mid is taken left → IsGone a b old was new is taken []
+gone_keep a b old mid new was is taken left kept gone = rw kept (record {
+  lines = gone.lines;
+  script = λ rest. gone.script rest ∙ ap (λ (all : List ℕ). gone.lines ++ lines_of all) (sym (append_assoc mid.line left rest));
+  answers = gone.answers;
+  answered = gone.answered;
+  machine = gone.machine;
+  replies = gone.replies;
+  refused = gone.refused;
+})
+
+-- ---- runs that stop
+
+-- what was written is a prefix of the replies so far
+pub gone_part : (a b : Option (List ℕ)) (old mid : Running) (was is : List File) (taken left rest : List ℕ) → IsGone a b old was mid is taken left → IsPart a b old was (lines_of (old.line ++ (taken ++ rest)))
+gone_part a b old mid was is taken left rest gone = record {
+  lines = gone.lines;
+  others = lines_of (mid.line ++ (left ++ rest));
+  split = gone.script rest;
+  answers = gone.answers;
+  answered = gone.answered;
+  replies = leads_prefix a b b _ _ gone.replies (prefix_none b _);
+}
+
+-- and so it is where more was written in part
+pub gone_part_more : (a b c : Option (List ℕ)) (old mid : Running) (was is : List File) (taken left rest : List ℕ) → IsGone a b old was mid is taken left → GrowsByPrefix b c mid.unwritten → IsPart a c old was (lines_of (old.line ++ (taken ++ rest)))
+gone_part_more a b c old mid was is taken left rest gone more = record {
+  lines = gone.lines;
+  others = lines_of (mid.line ++ (left ++ rest));
+  split = gone.script rest;
+  answers = gone.answers;
+  answered = gone.answered;
+  replies = leads_prefix a b c _ _ gone.replies more;
+}
+
+-- nothing was answered and nothing written
+pub part_none : (a : Option (List ℕ)) (run : Running) (was : List File) (script : List (List ℕ)) → IsPart a a run was script
+part_none a run was script = record {
+  lines = [];
+  others = script;
+  split = refl;
+  answers = [];
+  answered = tt;
+  replies = prefix_none a _;
+}
+
+-- ---- the end of a script
+
+last-lines : (line : List ℕ) → line ≢ [] → has_line_end line ≡ false → lines_of line ≡ line ∷ []
 last-lines [] some whole = absurd (some refl)
-last-lines (b ∷ line) some whole = ap lines_of (append-nil (b ∷ line)) ∙ lines-last b line whole
+last-lines (b ∷ line) some whole = lines-last b line whole
+
+-- a script without an unfinished line
+pub last_none : (run : Running) (files : List File) → run.line ≡ [] → IsLast run files run files
+last_none run files none = record {
+  answers = [];
+  answered = rw none tt;
+  machine = refl;
+  unwritten = sym (append-nil run.unwritten);
+  refused = sym (or-false run.refused);
+}
 
 -- an unfinished line is the last
-pub ends_with_line : (run new : Running) → run.line ≢ [] → has_line_end run.line ≡ false → new ≡ replied run run.line → EndsLast run new
-ends_with_line run new some whole done =
-    let last = last-lines run.line some whole in
-    rw done (record {
-      line = refl;
-      replies = ap (λ l. run.unwritten ++ replies run.state l) last ∙ ap (λ l. run.unwritten ++ l) (append-nil _);
-      refusal = ap (λ l. run.refused || has_refusal run.state l) last ∙ ap (λ b. run.refused || b) (or-false _);
-    })
+pub last_line : (run new : Running) (was left : List File) → run.line ≢ [] → has_line_end run.line ≡ false → IsReplied run was run.line new left → IsLast run was new left
+last_line run new was left some whole replied = record {
+  answers = replied.answer ∷ [];
+  answered = rw (last-lines run.line some whole) (replied.answered, tt);
+  machine = replied.machine;
+  unwritten = replied.unwritten ∙ ap (λ (x : List ℕ). run.unwritten ++ x) (sym (append-nil replied.answer.text));
+  refused = replied.refused ∙ ap (λ (r : Bool). run.refused || r) (sym (or-false replied.answer.refused));
+}
 
--- after the last line, the replies that aren't written are all that were to come
-pub last-to-come : {run new : Running} → EndsLast run new → to_come new [] ≡ to_come run []
-last-to-come {run} {new} ends =
-    ap (λ l. new.unwritten ++ replies new.state (lines_of (l ++ []))) ends.line ∙ append-nil new.unwritten ∙ sym ends.replies
+-- after the last line, the replies were written
+pub last_finished : (a b : Option (List ℕ)) (run new : Running) (was left : List File) (any_refused : Bool) → Grows a b new.unwritten → any_refused ≡ new.refused → IsLast run was new left → IsFinished a b run was left any_refused
+last_finished a b run new was left any_refused grown is last = record {
+  answers = last.answers;
+  answered = last.answered;
+  files = ap (λ m. m.files) last.machine;
+  replies = subst (λ (x : List ℕ). Grows a b x) last.unwritten grown;
+  refused = is ∙ last.refused;
+}
+
+-- or in part
+pub last_part : (a b : Option (List ℕ)) (run new : Running) (was left : List File) → GrowsByPrefix a b new.unwritten → IsLast run was new left → IsPart a b run was (lines_of run.line)
+last_part a b run new was left grown last = record {
+  lines = lines_of run.line;
+  others = [];
+  split = sym (append-nil (lines_of run.line));
+  answers = last.answers;
+  answered = last.answered;
+  replies = subst (λ (x : List ℕ). GrowsByPrefix a b x) last.unwritten grown;
+}
+
+-- ---- the same, where the files are told
+
+pub goes_none : (a : Option (List ℕ)) (run : Running) (was : Option (List File)) (bytes : List ℕ) → Goes a a run was run was bytes bytes
+goes_none a run None bytes = tt
+goes_none a run (Some was) bytes = gone_none a run was bytes
+
+module _ (a b : Option (List ℕ)) (old mid : Running) (was is : Option (List File)) (taken left : List ℕ) (goes : Goes a b old was mid is taken left) where
+  pub goes_part : WritesSome a b old was taken
+  goes_part = told_first was is (λ x y gone rest. gone_part a b old mid x y taken left rest gone) goes
+
+  pub goes_part_more : (c : Option (List ℕ)) → GrowsByPrefix b c mid.unwritten → WritesSome a c old was taken
+  goes_part_more c more = told_first was is (λ x y gone rest. gone_part_more a b c old mid x y taken left rest gone more) goes
+
+  pub goes_keep : (new : Running) → new ≡ record mid { line = mid.line ++ left } → Goes a b old was new is taken []
+  goes_keep new kept = told_map was is (λ x y gone. gone_keep a b old mid new x y taken left kept gone) goes
+
+  pub goes_write : (c : Option (List ℕ)) (new : Running) → WritesOn b c mid new → Goes a c old was new is taken left
+  goes_write c new writes = told_map was is (λ x y gone. gone_write a b c old mid new x y taken left writes gone) goes
+
+  pub goes_line : (c : Option (List ℕ)) (next new : Running) (after : Option (List File)) (line behind : List ℕ) → left ≡ line ++ 10 ∷ behind → has_line_end mid.line ≡ false → has_line_end line ≡ false → Replied mid is (mid.line ++ line) next after → WritesOn b c next new → Goes a c old was new after taken behind
+  goes_line c next new after line behind parts whole_line whole replied writes =
+      told_then was is after (λ x y z gone done. gone_line a b c old mid next new x y z taken left line behind parts whole_line whole done writes gone) goes replied
+
+-- a line was answered
+pub replied_gives : (old new : Running) (was left : Option (List File)) (done : List ℕ) (any_refused : Bool) → new.line ≡ [] → new.refused ≡ (old.refused || any_refused) → GivesTold (λ m a. IsAnswer m done a) old.state new.state was left old.unwritten new.unwritten any_refused → Replied old was done new left
+replied_gives old new was left done any_refused empty refused gives = told_map was left (λ x y given. record {
+  answer = record { machine = machine_of new y; text = given.text; refused = any_refused };
+  answered = given.is;
+  machine = refl;
+  unwritten = given.grows;
+  refused = refused;
+  line = empty;
+}) gives

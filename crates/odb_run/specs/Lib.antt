@@ -1,6 +1,9 @@
+pub mod Answering
 pub mod Headline
 pub mod Journal
+pub mod Laws
 pub mod Lines
+pub mod Loaded
 pub mod Machine
 pub mod Noted
 pub mod Options
@@ -8,3 +11,4 @@ pub mod Parts
 pub mod Replies
 pub mod Running
 pub mod Sessions
+pub mod Told

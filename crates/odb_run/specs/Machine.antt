@@ -1,6 +1,6 @@
--- The copying machine. It keeps a whole copy of the database while an ECO stands, and undo puts back that
--- very copy.
-use Rattle.std.specs.Prelude.{Bool, true, false, ◌||◌, ◌+◌, List, [], ◌∷◌, ◌++◌, ℕ, Option, None, Some, Result, Ok, Err, if◌then◌else◌, length, nat_lt, option_map}
+-- The copying machine, apart from its files. It keeps a whole copy of the database while an ECO stands, and undo
+-- puts back that very copy.
+use Rattle.std.specs.Prelude.{Bool, true, false, ◌+◌, List, [], ◌∷◌, ◌++◌, ℕ, Option, None, Some, Result, Ok, Err, length, option_map}
 use Rattle.odb_base.specs.declared.eco_state.EcoState.{EcoState}
 use Rattle.odb_base.specs.declared.eco_state.EcoState.TheVariants as state
 use Rattle.library.specs.declared.master.Master.{Master}
@@ -13,16 +13,11 @@ use Rattle.edits.specs.Plan.{made, plan}
 use Rattle.odb_save.specs.Save.{save_bytes}
 use Rattle.reports.specs.Reports.{report_of}
 use Rattle.reports.specs.declared.query.Query.{Query}
-use Rattle.reports.specs.declared.query.Query.TheVariants as query
 use Rattle.reports.specs.declared.query.ReportFault.{ReportFault}
-use Rattle.script_words.specs.Commands.{Request, request_of}
-use Rattle.script_words.specs.declared.command_words.Command.{Command}
-use Rattle.script_words.specs.declared.command_words.Command.TheVariants as command
 use Rattle.odb_run.specs.declared.outcome.Outcome.{Outcome}
-use Rattle.odb_run.specs.declared.run.TheConstants.{LINE_LIMIT}
 use Rattle.odb_run.specs.declared.parts.PartFault.{PartFault}
 use Rattle.odb_run.specs.Parts.{part_fault}
-use Rattle.odb_run.specs.Replies.{fault_text, long_line_text, number_text, ok_text, outcome_text, part_text, refusal_text, report_fault_text, saved_text, wrong_state_text}
+use Rattle.odb_run.specs.Replies.{number_text, ok_text, outcome_text, part_text, refusal_text, report_fault_text, saved_text, wrong_state_text}
 
 -- what stands with an ECO: the copy that was kept, and the steps that were accepted since
 pub record Kept : Type 0 where
@@ -42,7 +37,8 @@ abbrev pub eco_state : Option Kept → EcoState
 eco_state None = state.None
 eco_state (Some kept) = state.Open
 
--- the answer to a line: the state after it, the text of its reply, and whether the reply is a refusal
+-- the answer to a line that touches no file: the state after it, the text of its reply, and whether the reply is a
+-- refusal
 pub record Answer : Type 0 where
   pub state : State
   pub text : List ℕ
@@ -121,34 +117,3 @@ undo_answer s None = refused s (wrong_state_text state.None)
 -- `save -` shows the saved bytes
 abbrev pub save_answer : State → Answer
 save_answer s = accepted s (saved_text (save_bytes s.database))
-
-abbrev pub command_answer : State → Command → Answer
-command_answer s (command.Edit edit) = edit_answer s edit
-command_answer s (command.Master m) = master_answer s m s.eco
-command_answer s (command.Find k name) = report_answer s (query.Find k name)
-command_answer s (command.List k) = report_answer s (query.List k)
-command_answer s (command.Free k) = report_answer s (query.Free k)
-command_answer s command.Counts = report_answer s query.Counts
-command_answer s (command.Terms net) = report_answer s (query.Terms net)
-command_answer s command.SaveShown = save_answer s
-command_answer s command.EcoBegin = begin_answer s s.eco
-command_answer s command.EcoUndo = undo_answer s s.eco
-
-abbrev pub request_answer : State → Request → Answer
-request_answer s (Ok None) = unanswered s
-request_answer s (Ok (Some command)) = command_answer s command
-request_answer s (Err fault) = refused s (fault_text fault)
-
--- the answer to a line; one that is too long is passed over, be it blank, a comment or a command
-unfoldable pub answer : State → List ℕ → Answer
-answer s line = if nat_lt LINE_LIMIT (length line) then refused s long_line_text else request_answer s (request_of line)
-
--- the replies to lines, from a state on
-abbrev pub replies : State → List (List ℕ) → List ℕ
-replies s [] = []
-replies s (line ∷ lines) = (answer s line).text ++ replies (answer s line).state lines
-
--- some line is refused, from a state on
-abbrev pub has_refusal : State → List (List ℕ) → Bool
-has_refusal s [] = false
-has_refusal s (line ∷ lines) = (answer s line).refused || has_refusal (answer s line).state lines

@@ -1,9 +1,11 @@
 -- The text of each reply: one line, ended by LF.
-use Rattle.std.specs.Prelude.{List, [], ◌++◌, ℕ, codes, length}
+use Rattle.std.specs.Prelude.{List, [], ◌++◌, ℕ, None, Some, codes, length}
 use Rattle.odb_base.specs.EcoState.{eco_state_word}
 use Rattle.odb_base.specs.Kind.{kind_word}
 use Rattle.odb_base.specs.declared.codes.kind.Kind.{Kind}
 use Rattle.odb_base.specs.declared.eco_state.EcoState.{EcoState}
+use Rattle.odb_save.specs.declared.load_fault.LoadFault.{LoadFault}
+use Rattle.odb_save.specs.declared.load_fault.LoadFault.TheVariants as load
 use Rattle.edit_words.specs.declared.refusal.Refusal.{Refusal}
 use Rattle.edit_words.specs.declared.refusal.Refusal.TheVariants as refusal
 use Rattle.reports.specs.Texts.{line_end, spaced, value}
@@ -75,3 +77,23 @@ part_text part.Memory = []
 unfoldable pub report_fault_text : ReportFault → List ℕ
 report_fault_text (report.NotLive k id) = not_live_text k id
 report_fault_text report.Memory = []
+
+-- of a file that isn't there
+unfoldable pub no_file_text : List ℕ
+no_file_text = codes "refused 25 NoFile" ++ line_end
+
+-- of bytes that spell no sound database; for want of memory there is no reply
+unfoldable pub load_fault_text : LoadFault → List ℕ
+load_fault_text load.NotSaved = codes "refused 34 SavedText NotSaved" ++ line_end
+load_fault_text (load.Version got) = codes "refused 34 SavedText Version" ++ value got ++ line_end
+load_fault_text (load.Cut place) = codes "refused 34 SavedText Cut" ++ value place ++ line_end
+load_fault_text (load.BadField place) = codes "refused 34 SavedText BadField" ++ value place ++ line_end
+load_fault_text (load.OverCap k) = codes "refused 34 SavedText OverCap" ++ spaced (kind_word k) ++ line_end
+load_fault_text (load.Trailing place) = codes "refused 34 SavedText Trailing" ++ value place ++ line_end
+load_fault_text (load.Unsound None id) = codes "refused 34 SavedText Unsound header" ++ value id ++ line_end
+load_fault_text (load.Unsound (Some k) id) = codes "refused 34 SavedText Unsound" ++ spaced (kind_word k) ++ value id ++ line_end
+load_fault_text load.Memory = []
+
+-- of a file with more bytes than one that is read may have
+unfoldable pub long_file_text : List ℕ
+long_file_text = codes "refused 36 FileTooLong" ++ line_end

@@ -1,21 +1,27 @@
 -- What holds between two pieces of a script. The contracts of the parts of a run cite this module; that of
 -- the whole run doesn't.
 use Rattle.std.specs.Prelude.{◌≡◌, ◌≤◌, ◌+◌, ◌||◌, Bool, true, false, List, [], ◌++◌, ℕ, Option, None, Some, Result, Ok, Err, ⊤, IsErrOf, length}
+use Rattle.odb_outside.specs.Files.{File}
 use Rattle.odb_outside.specs.Outside.{Rose}
 use Rattle.odb_outside.specs.Writing.{Grows, GrowsByPrefix}
 use Rattle.odb_outside.specs.declared.fault.WriteFault.{WriteFault}
 use Rattle.odb_outside.specs.declared.fault.WriteFault.TheVariants as fault
+use Rattle.shelf_files.specs.declared.fault.FileFault.{FileFault}
+use Rattle.shelf_files.specs.declared.fault.FileFault.TheVariants as file
 use Rattle.odb_run.specs.declared.status.Status.{Status}
 use Rattle.odb_run.specs.declared.status.Status.TheVariants as status
 use Rattle.odb_run.specs.declared.stop.Stop.{Stop}
 use Rattle.odb_run.specs.declared.stop.Stop.TheVariants as stop
+use Rattle.odb_run.specs.Answering.{Answered, AreAnswers, IsAnswer, Machine, has_refusal, machine, machine_after, replies_of}
 use Rattle.odb_run.specs.Lines.{lines_of}
-use Rattle.odb_run.specs.Machine.{Answer, State, answer, has_refusal, replies}
+use Rattle.odb_run.specs.Machine.{Answer, State}
+use Rattle.odb_run.specs.Told.{IfTold, WhereTold}
 
 -- the status of a run that stopped
 abbrev pub status_of : Stop → Status
 status_of stop.ScriptFault = status.ScriptFault
 status_of stop.OutFault = status.OutFault
+status_of stop.FileFault = status.FileFault
 status_of stop.ScriptTooLong = status.ScriptTooLong
 status_of stop.Memory = status.Memory
 
@@ -24,12 +30,28 @@ abbrev pub stop_of : WriteFault → Stop
 stop_of fault.Failed = stop.OutFault
 stop_of fault.Memory = stop.Memory
 
--- the machine's answer was given: the state is the one after it, its text was appended, and this says
+-- what a fault in reading or writing a file makes of a run
+abbrev pub file_stop_of : FileFault → Stop
+file_stop_of file.Failed = stop.FileFault
+file_stop_of file.Memory = stop.Memory
+
+-- the state's answer was given: the state is the one after it, its text was appended, and this says
 -- whether it is a refusal
 pub record Answers (answer : Answer) (new : State) (before after : List ℕ) (refused : Bool) : Type 0 where
   pub state : new ≡ answer.state
   pub text : after ≡ before ++ answer.text
   pub refusal : refused ≡ answer.refused
+
+-- The machine's answer was given: the state and the files are those after it, its text was appended, and this says
+-- whether it is a refusal.
+pub record Gives (Is : Answered → Type 0) (new : State) (left : List File) (before after : List ℕ) (refused : Bool) : Type 0 where
+  pub text : List ℕ
+  pub is : Is (record { machine = machine new left; text = text; refused = refused })
+  pub grows : after ≡ before ++ text
+
+-- the same, where the files are told
+abbrev pub GivesTold : (Machine → Answered → Type 0) → State → State → Option (List File) → Option (List File) → List ℕ → List ℕ → Bool → Type 0
+GivesTold Is old new was left before after refused = WhereTold was left (λ was left. Gives (Is (machine old was)) new left before after refused)
 
 -- a run between two lines: the state, the bytes of the unfinished line, the replies that are not written yet,
 -- and whether there was a refusal
@@ -43,22 +65,22 @@ pub record Running : Type 0 where
 abbrev pub first_run : State → Running
 first_run s = record { state = s; line = []; unwritten = []; refused = false }
 
--- the replies that are still to be written, where this is the rest of the script
-abbrev pub to_come : Running → List ℕ → List ℕ
-to_come run rest = run.unwritten ++ replies run.state (lines_of (run.line ++ rest))
+-- the machine of a run, with these files
+abbrev pub machine_of : Running → List File → Machine
+machine_of run files = machine run.state files
 
--- whether there is a refusal in all, where this is the rest of the script
-abbrev pub to_refuse : Running → List ℕ → Bool
-to_refuse run rest = run.refused || has_refusal run.state (lines_of (run.line ++ rest))
+-- this line was answered, and none is unfinished
+pub record IsReplied (old : Running) (was : List File) (done : List ℕ) (new : Running) (left : List File) : Type 0 where
+  pub answer : Answered
+  pub answered : IsAnswer (machine_of old was) done answer
+  pub machine : machine_of new left ≡ answer.machine
+  pub unwritten : new.unwritten ≡ old.unwritten ++ answer.text
+  pub refused : new.refused ≡ (old.refused || answer.refused)
+  pub line : new.line ≡ []
 
--- the run after this line was answered
-abbrev pub replied : Running → List ℕ → Running
-replied run line = record {
-  state = (answer run.state line).state;
-  line = [];
-  unwritten = run.unwritten ++ (answer run.state line).text;
-  refused = run.refused || (answer run.state line).refused;
-}
+-- the same, where the files are told
+abbrev pub Replied : Running → Option (List File) → List ℕ → Running → Option (List File) → Type 0
+Replied old was done new left = WhereTold was left (λ was left. IsReplied old was done new left)
 
 -- the bytes written so far, and then those left to come, are those written before and those that were to come
 pub record IsWritten (before now coming left : List ℕ) : Type 0 where
@@ -71,32 +93,68 @@ Leads None now coming left = ⊤
 Leads (Some before) None coming left = ⊥
 Leads (Some before) (Some now) coming left = IsWritten before now coming left
 
--- From one point of a run to a later one, bytes of the script were taken, of which these are left to be looked
--- at, and replies were written. Whatever the rest of the script, what was to come is written or still to come.
-pub record Goes (before now : Option (List ℕ)) (old new : Running) (taken left : List ℕ) : Type 0 where
-  pub replies : (rest : List ℕ) → Leads before now (to_come old (taken ++ rest)) (to_come new (left ++ rest))
-  pub refusals : (rest : List ℕ) → to_refuse old (taken ++ rest) ≡ to_refuse new (left ++ rest)
+-- the replies were written, or kept to be written later, and nothing else changed
+pub record WritesOn (before now : Option (List ℕ)) (old new : Running) : Type 0 where
+  pub replies : Leads before now old.unwritten new.unwritten
+  pub others : new ≡ record old { unwritten = new.unwritten }
 
--- whatever the rest of the script, some of the replies that were to come were written, from the first on
-abbrev pub WritesSome : Option (List ℕ) → Option (List ℕ) → Running → List ℕ → Type 0
-WritesSome before now old taken = (rest : List ℕ) → GrowsByPrefix before now (to_come old (taken ++ rest))
+-- From one point of a run to a later one, bytes of the script were taken, of which these are left to be looked at.
+-- The lines that ended were answered, whatever the rest of the script, and their replies are written or still to be
+-- written.
+pub record IsGone (before now : Option (List ℕ)) (old : Running) (was : List File) (new : Running) (is : List File) (taken left : List ℕ) : Type 0 where
+  pub lines : List (List ℕ)
+  pub script : (rest : List ℕ) → lines_of (old.line ++ (taken ++ rest)) ≡ lines ++ lines_of (new.line ++ (left ++ rest))
+  pub answers : List Answered
+  pub answered : AreAnswers (machine_of old was) lines answers
+  pub machine : machine_of new is ≡ machine_after (machine_of old was) answers
+  pub replies : Leads before now (old.unwritten ++ replies_of answers) new.unwritten
+  pub refused : new.refused ≡ (old.refused || has_refusal answers)
 
--- all replies that were to come at the end of the script are written, and this says whether some was a refusal
-pub record Finishes (before now : Option (List ℕ)) (run : Running) (refused : Bool) : Type 0 where
-  pub replies : Grows before now (to_come run [])
-  pub refusal : refused ≡ to_refuse run []
+-- the same, where the files are told
+abbrev pub Goes : Option (List ℕ) → Option (List ℕ) → Running → Option (List File) → Running → Option (List File) → List ℕ → List ℕ → Type 0
+Goes before now old was new is taken left = WhereTold was is (λ was is. IsGone before now old was new is taken left)
 
--- nothing is left of the script or of the replies, and this says whether one was a refusal
-pub record IsOver (run : Running) (refused : Bool) : Type 0 where
-  pub line : run.line ≡ []
-  pub unwritten : run.unwritten ≡ []
-  pub refusal : refused ≡ run.refused
+-- the first lines of a script were answered, and some of the replies were written, from the first on
+pub record IsPart (before now : Option (List ℕ)) (old : Running) (was : List File) (script : List (List ℕ)) : Type 0 where
+  pub lines : List (List ℕ)
+  pub others : List (List ℕ)
+  pub split : script ≡ lines ++ others
+  pub answers : List Answered
+  pub answered : AreAnswers (machine_of old was) lines answers
+  pub replies : GrowsByPrefix before now (old.unwritten ++ replies_of answers)
+
+-- whatever the rest of the script, that is so
+abbrev pub WritesSome : Option (List ℕ) → Option (List ℕ) → Running → Option (List File) → List ℕ → Type 0
+WritesSome before now old was taken = IfTold was (λ was. (rest : List ℕ) → IsPart before now old was (lines_of (old.line ++ (taken ++ rest))))
+
+-- in the end of a script, that is so of the unfinished line
+abbrev pub FinishesPart : Option (List ℕ) → Option (List ℕ) → Running → Option (List File) → Type 0
+FinishesPart before now run was = IfTold was (λ was. IsPart before now run was (lines_of run.line))
+
+-- the unfinished line, where there is one, was answered, all replies are written, and this says whether some was a
+-- refusal
+pub record IsFinished (before now : Option (List ℕ)) (run : Running) (was is : List File) (any_refused : Bool) : Type 0 where
+  pub answers : List Answered
+  pub answered : AreAnswers (machine_of run was) (lines_of run.line) answers
+  pub files : is ≡ (machine_after (machine_of run was) answers).files
+  pub replies : Grows before now (run.unwritten ++ replies_of answers)
+  pub refused : any_refused ≡ (run.refused || has_refusal answers)
+
+-- the same, where the files are told
+abbrev pub Finishes : Option (List ℕ) → Option (List ℕ) → Running → Option (List File) → Option (List File) → Bool → Type 0
+Finishes before now run was is any_refused = WhereTold was is (λ was is. IsFinished before now run was is any_refused)
 
 -- the unfinished line, where there is one, was the last
-pub record EndsLast (old new : Running) : Type 0 where
-  pub line : new.line ≡ []
-  pub replies : to_come old [] ≡ new.unwritten
-  pub refusal : to_refuse old [] ≡ new.refused
+pub record IsLast (old : Running) (was : List File) (new : Running) (is : List File) : Type 0 where
+  pub answers : List Answered
+  pub answered : AreAnswers (machine_of old was) (lines_of old.line) answers
+  pub machine : machine_of new is ≡ machine_after (machine_of old was) answers
+  pub unwritten : new.unwritten ≡ old.unwritten ++ replies_of answers
+  pub refused : new.refused ≡ (old.refused || has_refusal answers)
+
+-- the same, where the files are told
+abbrev pub EndsLast : Running → Option (List File) → Running → Option (List File) → Type 0
+EndsLast old was new is = WhereTold was is (λ was is. IsLast old was new is)
 
 -- the status of a run, from whether there was a refusal or from what stopped it
 abbrev pub ended : Result Bool Stop → Status
@@ -104,18 +162,24 @@ ended (Ok false) = status.Done
 ended (Ok true) = status.Refused
 ended (Err stop) = status_of stop
 
--- in the middle of a script: so many of its bytes were taken and these are left, and the replies to it are
--- written or to come
-pub record IsWithin (s : State) (script left : List ℕ) (before now : Option (List ℕ)) (run : Running) (taken : ℕ) : Type 0 where
-  pub replies : Leads before now (replies s (lines_of script)) (to_come run left)
-  pub refusals : has_refusal s (lines_of script) ≡ to_refuse run left
-  pub counted : length script ≡ taken + length left
+-- in the middle of a script: so much of it was taken, and the lines that ended were answered
+pub record IsWithin (s : State) (script left : List ℕ) (before now : Option (List ℕ)) (was : List File) (run : Running) (is : List File) (count : ℕ) : Type 0 where
+  pub taken : List ℕ
+  pub split : script ≡ taken ++ left
+  pub counted : length taken ≡ count
+  pub gone : IsGone before now (first_run s) was run is taken []
 
--- the same, where the script tells its bytes
-abbrev pub Within : State → Option (List ℕ) → Option (List ℕ) → Option (List ℕ) → Option (List ℕ) → Running → ℕ → Type 0
-Within s None left before now run taken = ⊤
-Within s (Some script) None before now run taken = ⊥
-Within s (Some script) (Some left) before now run taken = IsWithin s script left before now run taken
+-- the same, where the script tells its bytes and the shelf its files
+abbrev pub Within : State → Option (List ℕ) → Option (List ℕ) → Option (List ℕ) → Option (List ℕ) → Option (List File) → Running → Option (List File) → ℕ → Type 0
+Within s None left before now was run is count = ⊤
+Within s (Some script) None before now was run is count = ⊥
+Within s (Some script) (Some left) before now was run is count = WhereTold was is (λ was is. IsWithin s script left before now was run is count)
+
+-- so many bytes of a script were taken, and these are left
+abbrev pub Counts : Option (List ℕ) → Option (List ℕ) → ℕ → Type 0
+Counts None left count = ⊤
+Counts (Some script) None count = ⊥
+Counts (Some script) (Some left) count = length script ≡ count + length left
 
 -- a count of faults never falls, and it rose where the run stopped for this reason
 pub record HasFaultCause {T : Type 0} (before now : ℕ) (result : Result T Stop) (stop : Stop) : Type 0 where
@@ -123,7 +187,7 @@ pub record HasFaultCause {T : Type 0} (before now : ℕ) (result : Result T Stop
   pub failed : IsErrOf result stop → Rose before now
 
 -- a count of faults never falls, and it rose where the run stopped for a fault of writing; it didn't stop for
--- one of reading, nor for the script's length
+-- one of reading the script, nor for the script's length
 pub record HasOutCause {T : Type 0} (before now : ℕ) (result : Result T Stop) : Type 0 where
   pub later : before ≤ now
   pub failed : IsErrOf result stop.OutFault → Rose before now

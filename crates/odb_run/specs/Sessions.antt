@@ -6,6 +6,9 @@ use Rattle.edit_words.specs.declared.edit.Edit.{Edit}
 use Rattle.edit_words.specs.declared.refusal.Refusal.{Refusal}
 use Rattle.edit_words.specs.declared.refusal.Refusal.TheVariants as refusal
 use Rattle.edit_words.specs.declared.step.Step.{Step}
+use Rattle.odb_save.specs.Loading.{Loads}
+use Rattle.odb_save.specs.declared.load_fault.LoadFault.{LoadFault}
+use Rattle.odb_save.specs.declared.load_fault.LoadFault.TheVariants as load
 use Rattle.steps_net.specs.Do.{do_all}
 use Rattle.edits.specs.Plan.{made}
 use Rattle.odb_run.specs.declared.outcome.Outcome.{Outcome}
@@ -80,3 +83,9 @@ Adds s m None (Err (add.WrongState is)) new = ⊥
 Adds s m (Some kept) (Ok id) new = ⊥
 Adds s m (Some kept) (Err (add.Part why)) new = ⊥
 Adds s m (Some kept) (Err (add.WrongState is)) new = (is ≡ eco_state (Some kept)) × (new ≡ s)
+
+-- What loading bytes does: the database is the one that they spell, with the cap of the one that stood.
+abbrev pub Puts : State → List ℕ → Result (Unit {0}) LoadFault → State → Type 0
+Puts s bytes (Ok done) new = Loads s.database.cap bytes (Ok new.database) × (new ≡ record s { database = new.database })
+Puts s bytes (Err load.Memory) new = new ≡ s
+Puts s bytes (Err why) new = Loads s.database.cap bytes (Err why) × (new ≡ s)

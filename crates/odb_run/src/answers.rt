@@ -1,8 +1,14 @@
-ghost use Rattle.std.specs.Prelude.{IfOk};
-ghost use Rattle.odb_run.specs.Machine.{answer, begin_answer, command_answer, edit_answer, master_answer, report_answer, request_answer, save_answer, undo_answer};
-ghost use Rattle.odb_run.specs.Running.{Answers};
+ghost use Rattle.std.specs.Prelude.{◌≡◌, IfOk, OnOk};
+ghost use Rattle.odb_outside.specs.Shelves.{files_told};
+ghost use Rattle.odb_outside.specs.declared.shelf.Hand.{Hand as AnyHand};
+ghost use Rattle.shelf_files.specs.Causes.{HasCause};
+ghost use Rattle.odb_run.specs.Answering.{IsAnswer, IsCommandAnswer, IsRequestAnswer};
+ghost use Rattle.odb_run.specs.Loaded.{GivesInSession, TouchesNoFile};
+ghost use Rattle.odb_run.specs.Machine.{begin_answer, edit_answer, master_answer, report_answer, save_answer, undo_answer};
+ghost use Rattle.odb_run.specs.Running.{Answers, GivesTold};
 ghost use Rattle.script_words.specs.Commands.{request_of};
 
+use crate::file_answers::{answer_load, answer_save_to};
 use crate::parts::PartFault;
 use crate::reply::{
     put_fault, put_long_line, put_ok, put_ok_number, put_outcome, put_part_fault, put_refusal,
@@ -13,43 +19,53 @@ use crate::session::{AddFault, Session, UndoFault};
 use edit_words::{Edit, Refusal};
 use library::Master;
 use odb_base::Steps;
+use odb_outside::{Hand, Shelf};
 use odb_save::save;
 use reports::{Query, ReportFault, report};
 use script_words::{Command, LineFault, command};
+use shelf_files::FileFault;
 use std::alloc::{AllocError, Global};
 use std::sync::ledger::Ledger;
 
 /// Answers a line, and says whether its reply is a refusal. The reply is appended.
-#[tactic(auto, unfolding(crate::specs::Machine::answer))]
-pub fn answer_line<L: Ledger>(
+#[tactic(auto, unfolding(crate::specs::Answering::IsAnswer))]
+pub fn answer_line<F: Shelf, L: Ledger>(
     alloc: Global,
     session: &mut Session,
     line: &[u8],
+    shelf: &mut F,
     replies: &mut Vec<u8>,
     moves: &mut Steps<L>,
-) -> Result<bool, AllocError>
-    ensures { IfOk result (Answers (answer session.old line.now) session.new replies.old.items replies.new.items) }
+) -> Result<bool, FileFault>
+    requires { F.hand shelf.old ≡ Hand.Nothing }
+    ensures gives { IfOk result (λ refused. GivesTold (λ m a. IsAnswer m line.now a) session.old session.new (files_told (F.told shelf.old)) (files_told (F.told shelf.new)) replies.old.items replies.new.items refused) }
+    ensures hand { OnOk result (F.hand shelf.new ≡ Hand.Nothing) }
+    ensures cause { HasCause (F.faults shelf.old) (F.faults shelf.new) result }
 {
     if line.len() > LINE_LIMIT {
         put_long_line(replies)?;
         return Ok(true);
     }
-    answer_request(alloc, session, line, replies, moves)
+    answer_request(alloc, session, line, shelf, replies, moves)
 }
 
-fn answer_request<L: Ledger>(
+fn answer_request<F: Shelf, L: Ledger>(
     alloc: Global,
     session: &mut Session,
     line: &[u8],
+    shelf: &mut F,
     replies: &mut Vec<u8>,
     moves: &mut Steps<L>,
-) -> Result<bool, AllocError>
-    ensures { IfOk result (Answers (request_answer session.old (request_of line.now)) session.new replies.old.items replies.new.items) }
+) -> Result<bool, FileFault>
+    requires { F.hand shelf.old ≡ Hand.Nothing }
+    ensures gives { IfOk result (λ refused. GivesTold (λ m a. IsRequestAnswer m (request_of line.now) a) session.old session.new (files_told (F.told shelf.old)) (files_told (F.told shelf.new)) replies.old.items replies.new.items refused) }
+    ensures hand { OnOk result (F.hand shelf.new ≡ Hand.Nothing) }
+    ensures cause { HasCause (F.faults shelf.old) (F.faults shelf.new) result }
 {
     match command(alloc, line) {
         Ok(None) => Ok(false),
-        Ok(Some(command)) => answer_command(alloc, session, command, replies, moves),
-        Err(LineFault::Memory) => Err(AllocError),
+        Ok(Some(command)) => answer_command(alloc, session, command, shelf, replies, moves),
+        Err(LineFault::Memory) => Err(FileFault::Memory),
         Err(fault) => {
             put_fault(replies, fault)?;
             Ok(true)
@@ -57,14 +73,36 @@ fn answer_request<L: Ledger>(
     }
 }
 
-fn answer_command<L: Ledger>(
+fn answer_command<F: Shelf, L: Ledger>(
+    alloc: Global,
+    session: &mut Session,
+    command: Command,
+    shelf: &mut F,
+    replies: &mut Vec<u8>,
+    moves: &mut Steps<L>,
+) -> Result<bool, FileFault>
+    requires { F.hand shelf.old ≡ Hand.Nothing }
+    ensures gives { IfOk result (λ refused. GivesTold (λ m a. IsCommandAnswer m command a) session.old session.new (files_told (F.told shelf.old)) (files_told (F.told shelf.new)) replies.old.items replies.new.items refused) }
+    ensures hand { OnOk result (F.hand shelf.new ≡ Hand.Nothing) }
+    ensures cause { HasCause (F.faults shelf.old) (F.faults shelf.new) result }
+{
+    match command {
+        Command::Save { file } => answer_save_to(alloc, session, &file, shelf, replies),
+        Command::Load { file } => answer_load(alloc, session, &file, shelf, replies),
+        other => Ok(answer_in_session(alloc, session, other, replies, moves)?),
+    }
+}
+
+// Answers a command that reads and writes no file.
+fn answer_in_session<L: Ledger>(
     alloc: Global,
     session: &mut Session,
     command: Command,
     replies: &mut Vec<u8>,
     moves: &mut Steps<L>,
 ) -> Result<bool, AllocError>
-    ensures { IfOk result (Answers (command_answer session.old command) session.new replies.old.items replies.new.items) }
+    requires { TouchesNoFile command }
+    ensures { IfOk result (λ refused. GivesInSession (λ m a. IsCommandAnswer m command a) session.old session.new replies.old.items replies.new.items refused) }
 {
     match command {
         Command::Edit(edit) => answer_edit(alloc, session, &edit, replies, moves),
@@ -77,6 +115,7 @@ fn answer_command<L: Ledger>(
         Command::SaveShown => answer_save(alloc, session, replies),
         Command::EcoBegin => answer_begin(alloc, session, replies),
         Command::EcoUndo => answer_undo(session, replies, moves),
+        Command::Save { .. } | Command::Load { .. } => unreachable!(),
     }
 }
 

@@ -12,7 +12,9 @@
 #![tactic(auto)]
 
 mod answers;
+mod file_answers;
 mod journal;
+pub mod laws;
 mod options;
 mod outcome;
 mod parts;
@@ -24,6 +26,7 @@ mod steps;
 mod stop;
 mod top;
 
+pub use laws::answers_are_determined;
 pub use status::Status;
 pub use top::odb_main;
 

@@ -1,11 +1,13 @@
 ghost use Rattle.std.specs.Prelude.{◌≡◌, ◌≢◌, ◌++◌, OnOk};
+ghost use Rattle.odb_base.specs.Kind.{kind_word};
 ghost use Rattle.reports.specs.Texts.{line_end, spaced, value};
-ghost use Rattle.odb_run.specs.Replies.{fault_text, long_line_text, not_live_text, number_text, ok_text, outcome_text, part_text, refusal_text, report_fault_text, saved_text, wrong_state_text};
+ghost use Rattle.odb_run.specs.Replies.{fault_text, load_fault_text, long_file_text, long_line_text, no_file_text, not_live_text, number_text, ok_text, outcome_text, part_text, refusal_text, report_fault_text, saved_text, wrong_state_text};
 
 use crate::outcome::Outcome;
 use crate::parts::PartFault;
 use edit_words::Refusal;
 use odb_base::{EcoState, Kind, Worded};
+use odb_save::LoadFault;
 use reports::ReportFault;
 use reports::text::{end_line, put_value, put_word};
 use script_words::LineFault;
@@ -68,11 +70,11 @@ pub fn put_refusal(out: &mut Vec<u8>, refusal: Refusal) -> Result<(), AllocError
 {
     match refusal {
         Refusal::NotLive { kind, id } => put_not_live(out, kind, id),
-        Refusal::BadValue { at } => put_numbered(out, b"refused 3 BadValue", at),
-        Refusal::BadName { at } => put_numbered(out, b"refused 4 BadName", at),
-        Refusal::Unknown { at } => put_numbered(out, b"refused 5 Unknown", at),
-        Refusal::NameTaken { id } => put_numbered(out, b"refused 6 NameTaken", id),
-        Refusal::Joined { net } => put_numbered(out, b"refused 7 Joined", net),
+        Refusal::BadValue { at } => put_numbered(out, b"refused 3 BadValue", at as u64),
+        Refusal::BadName { at } => put_numbered(out, b"refused 4 BadName", at as u64),
+        Refusal::Unknown { at } => put_numbered(out, b"refused 5 Unknown", at as u64),
+        Refusal::NameTaken { id } => put_numbered(out, b"refused 6 NameTaken", id as u64),
+        Refusal::Joined { net } => put_numbered(out, b"refused 7 Joined", net as u64),
         Refusal::NotJoined => put_line(out, b"refused 8 NotJoined"),
         Refusal::TermsDiffer { name } => put_worded(out, b"refused 9 TermsDiffer", name.bytes()),
         Refusal::Special => put_line(out, b"refused 13 Special"),
@@ -135,23 +137,76 @@ pub fn put_report_fault(out: &mut Vec<u8>, fault: ReportFault) -> Result<(), All
     }
 }
 
+/// Appends the refusal of a file that isn't there.
+#[tactic(auto, unfolding(crate::specs::Replies::no_file_text))]
+pub fn put_no_file(out: &mut Vec<u8>) -> Result<(), AllocError>
+    ensures { OnOk result (out.new.items ≡ out.old.items ++ no_file_text) }
+{
+    put_line(out, b"refused 25 NoFile")
+}
+
+/// Appends the refusal of bytes that spell no sound database; for want of memory there is none.
+#[tactic(auto, unfolding(crate::specs::Replies::load_fault_text))]
+pub fn put_load_fault(out: &mut Vec<u8>, fault: LoadFault) -> Result<(), AllocError>
+    ensures text { OnOk result (out.new.items ≡ out.old.items ++ load_fault_text fault) }
+    ensures memory { OnOk result (fault ≢ LoadFault.Memory) }
+{
+    match fault {
+        LoadFault::NotSaved => put_line(out, b"refused 34 SavedText NotSaved"),
+        LoadFault::Version { got } => put_numbered(
+            out,
+            b"refused 34 SavedText Version",
+            got as u64,
+        ),
+        LoadFault::Cut { at } => put_numbered(out, b"refused 34 SavedText Cut", at),
+        LoadFault::BadField { at } => put_numbered(out, b"refused 34 SavedText BadField", at),
+        LoadFault::OverCap { kind } => {
+            put_worded(out, b"refused 34 SavedText OverCap", kind.word())
+        }
+        LoadFault::Trailing { at } => put_numbered(out, b"refused 34 SavedText Trailing", at),
+        LoadFault::Unsound { kind: None, id } => {
+            put_numbered(out, b"refused 34 SavedText Unsound header", id as u64)
+        }
+        LoadFault::Unsound {
+            kind: Some(kind),
+            id,
+        } => put_named(out, b"refused 34 SavedText Unsound", kind, id),
+        LoadFault::Memory => Err(AllocError),
+    }
+}
+
+/// Appends the refusal of a file that is too long.
+#[tactic(auto, unfolding(crate::specs::Replies::long_file_text))]
+pub fn put_long_file(out: &mut Vec<u8>) -> Result<(), AllocError>
+    ensures { OnOk result (out.new.items ≡ out.old.items ++ long_file_text) }
+{
+    put_line(out, b"refused 36 FileTooLong")
+}
+
 // Appends the refusal of what names an object that isn't there.
 #[tactic(auto, unfolding(crate::specs::Replies::not_live_text))]
 fn put_not_live(out: &mut Vec<u8>, kind: Kind, id: u32) -> Result<(), AllocError>
     ensures { OnOk result (out.new.items ≡ out.old.items ++ not_live_text kind id) }
 {
-    put_text_and_word(out, b"refused 2 NotLive", kind.word())?;
+    put_named(out, b"refused 2 NotLive", kind, id)
+}
+
+// Appends a line of a text, a kind and an identifier.
+fn put_named(out: &mut Vec<u8>, text: &[u8], kind: Kind, id: u32) -> Result<(), AllocError>
+    ensures { OnOk result (out.new.items ≡ out.old.items ++ (text.now ++ spaced (kind_word kind) ++ value id ++ line_end)) }
+{
+    put_text_and_word(out, text, kind.word())?;
     put_value(out, id as u64)?;
     end_line(out)?;
     Ok(())
 }
 
 // Appends a line of a text and a number.
-fn put_numbered(out: &mut Vec<u8>, text: &[u8], n: u32) -> Result<(), AllocError>
+fn put_numbered(out: &mut Vec<u8>, text: &[u8], n: u64) -> Result<(), AllocError>
     ensures { OnOk result (out.new.items ≡ out.old.items ++ (text.now ++ value n ++ line_end)) }
 {
     out.extend_from_slice(text)?;
-    put_value(out, n as u64)?;
+    put_value(out, n)?;
     end_line(out)?;
     Ok(())
 }

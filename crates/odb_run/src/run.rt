@@ -2,6 +2,9 @@ ghost use Rattle.std.specs.Prelude.{◌≡◌, ◌<◌, ◌≤◌, ◌++◌, [],
 ghost use Rattle.odb_outside.specs.Outside.{HasWriteCause};
 ghost use Rattle.odb_outside.specs.Writing.{Grows, GrowsByPrefix, UnlessFailed};
 ghost use Rattle.block_store.specs.declared.block.TheConstants.{SLOT_LIMIT};
+ghost use Rattle.odb_outside.specs.Shelves.{files_told};
+ghost use Rattle.odb_outside.specs.declared.shelf.Hand.{Hand as AnyHand};
+ghost use Rattle.shelf_files.specs.Causes.{HasCause as HasFileCause};
 ghost use Rattle.odb_run.specs.Machine.{start};
 ghost use Rattle.odb_run.specs.Lines.{IsLineEnd, has_line_end};
 
@@ -10,7 +13,8 @@ use crate::session::Session;
 use crate::stop::Stop;
 use memchr::memchr;
 use odb_base::Steps;
-use odb_outside::{Sink, WriteFault, write_all};
+use odb_outside::{Hand, Shelf, Sink, WriteFault, write_all};
+use shelf_files::FileFault;
 use std::alloc::{AllocError, Global};
 use std::marker::Model;
 use std::sync::ledger::Ledger;
@@ -46,7 +50,7 @@ impl Model for Run {
 }
 
 impl Run {
-    ghost use Rattle.odb_run.specs.Running.{EndsLast, Finishes, Goes, HasOutCause, IsOver, WritesSome, first_run, replied, to_come};
+    ghost use Rattle.odb_run.specs.Running.{EndsLast, Finishes, FinishesPart, Goes, HasFaultCause, HasOutCause, Replied, WritesOn, WritesSome, first_run};
 
     /// A run that has taken nothing of its script, over the empty database, whose tables have at most `cap`
     /// slots each.
@@ -64,83 +68,103 @@ impl Run {
 
     /// Answers the unfinished line, where there is one, writes the replies, and says whether there was a
     /// refusal.
-    pub fn finish<K: Sink, L: Ledger>(
+    pub fn finish<F: Shelf, K: Sink, L: Ledger>(
         &mut self,
         alloc: Global,
+        shelf: &mut F,
         out: &mut K,
         moves: &mut Steps<L>,
     ) -> Result<bool, Stop>
-        requires { IsTrue (K.ready out.old) }
-        ensures ok { IfOk result (λ refused. Finishes (K.held out.old) (K.held out.new) self.old refused) }
-        ensures over { IfOk result (λ refused. IsOver self.new refused) }
-        ensures err { OnErr result (GrowsByPrefix (K.held out.old) (K.held out.new) (to_come self.old [])) }
-        ensures cause { HasOutCause (K.faults out.old) (K.faults out.new) result }
+        requires hand { F.hand shelf.old ≡ Hand.Nothing }
+        requires ready { IsTrue (K.ready out.old) }
+        ensures ok { IfOk result (λ refused. Finishes (K.held out.old) (K.held out.new) self.old (files_told (F.told shelf.old)) (files_told (F.told shelf.new)) refused) }
+        ensures err { OnErr result (FinishesPart (K.held out.old) (K.held out.new) self.old (files_told (F.told shelf.old))) }
+        ensures out_cause { HasOutCause (K.faults out.old) (K.faults out.new) result }
+        ensures file_cause { HasFaultCause (F.faults shelf.old) (F.faults shelf.new) result Stop.FileFault }
     {
-        self.end_last_line(alloc, moves)?;
+        self.end_last_line(alloc, shelf, moves)?;
         self.write_out(out)?;
         Ok(self.refused)
     }
 
     // Answers the unfinished line, where there is one.
-    fn end_last_line<L: Ledger>(
+    fn end_last_line<F: Shelf, L: Ledger>(
         &mut self,
         alloc: Global,
+        shelf: &mut F,
         moves: &mut Steps<L>,
-    ) -> Result<(), AllocError>
-        ensures { OnOk result (EndsLast self.old self.new) }
+    ) -> Result<(), FileFault>
+        requires { F.hand shelf.old ≡ Hand.Nothing }
+        ensures ok { OnOk result (EndsLast self.old (files_told (F.told shelf.old)) self.new (files_told (F.told shelf.new))) }
+        ensures cause { HasFileCause (F.faults shelf.old) (F.faults shelf.new) result }
     {
         if self.line.is_empty() {
             return Ok(());
         }
-        self.end_unfinished_line(alloc, moves)
+        self.end_unfinished_line(alloc, shelf, moves)
     }
 
     // Answers the line that ends with these bytes.
-    fn end_line<L: Ledger>(
+    fn end_line<F: Shelf, L: Ledger>(
         &mut self,
         alloc: Global,
         bytes: &[u8],
+        shelf: &mut F,
         moves: &mut Steps<L>,
-    ) -> Result<(), AllocError>
-        requires { has_line_end bytes.now ≡ false }
-        ensures ok { OnOk result (self.new ≡ replied self.old (self.old.line ++ bytes.now)) }
+    ) -> Result<(), FileFault>
+        requires line { has_line_end bytes.now ≡ false }
+        requires hand { F.hand shelf.old ≡ Hand.Nothing }
+        ensures ok { OnOk result (Replied self.old (files_told (F.told shelf.old)) (self.old.line ++ bytes.now) self.new (files_told (F.told shelf.new))) }
         ensures whole { has_line_end self.old.line ≡ false }
+        ensures hand { OnOk result (F.hand shelf.new ≡ Hand.Nothing) }
+        ensures cause { HasFileCause (F.faults shelf.old) (F.faults shelf.new) result }
     {
         if self.line.is_empty() {
-            return self.reply_to(alloc, bytes, moves);
+            return self.reply_to(alloc, bytes, shelf, moves);
         }
         self.line.extend_from_slice(bytes)?;
-        self.end_unfinished_line(alloc, moves)
+        self.end_unfinished_line(alloc, shelf, moves)
     }
 
     // Answers a line that has no bytes in the unfinished one.
-    fn reply_to<L: Ledger>(
+    fn reply_to<F: Shelf, L: Ledger>(
         &mut self,
         alloc: Global,
         line: &[u8],
+        shelf: &mut F,
         moves: &mut Steps<L>,
-    ) -> Result<(), AllocError>
-        requires { self.old.line ≡ [] }
-        ensures { OnOk result (self.new ≡ replied self.old line.now) }
+    ) -> Result<(), FileFault>
+        requires line { self.old.line ≡ [] }
+        requires hand { F.hand shelf.old ≡ Hand.Nothing }
+        ensures ok { OnOk result (Replied self.old (files_told (F.told shelf.old)) line.now self.new (files_told (F.told shelf.new))) }
+        ensures hand { OnOk result (F.hand shelf.new ≡ Hand.Nothing) }
+        ensures cause { HasFileCause (F.faults shelf.old) (F.faults shelf.new) result }
     {
-        let refused = answer_line(alloc, &mut self.session, line, &mut self.unwritten, moves)?;
+        let session = &mut self.session;
+        let refused = answer_line(alloc, session, line, shelf, &mut self.unwritten, moves)?;
         self.refused |= refused;
         Ok(())
     }
 
     // Answers the unfinished line, which ends here.
-    fn end_unfinished_line<L: Ledger>(
+    fn end_unfinished_line<F: Shelf, L: Ledger>(
         &mut self,
         alloc: Global,
+        shelf: &mut F,
         moves: &mut Steps<L>,
-    ) -> Result<(), AllocError>
-        ensures ok { OnOk result (self.new ≡ replied self.old self.old.line) }
+    ) -> Result<(), FileFault>
+        requires { F.hand shelf.old ≡ Hand.Nothing }
+        ensures ok { OnOk result (Replied self.old (files_told (F.told shelf.old)) self.old.line self.new (files_told (F.told shelf.new))) }
         ensures whole { has_line_end self.old.line ≡ false }
+        ensures hand { OnOk result (F.hand shelf.new ≡ Hand.Nothing) }
+        ensures cause { HasFileCause (F.faults shelf.old) (F.faults shelf.new) result }
     {
+        let session = &mut self.session;
         let refused = answer_line(
             alloc,
-            &mut self.session,
+            session,
             &self.line,
+            shelf,
             &mut self.unwritten,
             moves,
         )?;
@@ -150,23 +174,27 @@ impl Run {
     }
 
     /// Takes a piece of the script. Each line that ends in it is answered, and the replies are written.
-    pub fn take_piece<K: Sink, L: Ledger>(
+    pub fn take_piece<F: Shelf, K: Sink, L: Ledger>(
         &mut self,
         alloc: Global,
         piece: &[u8],
+        shelf: &mut F,
         out: &mut K,
         moves: &mut Steps<L>,
     ) -> Result<(), Stop>
-        requires { IsTrue (K.ready out.old) }
-        ensures ok { OnOk result (Goes (K.held out.old) (K.held out.new) self.old self.new piece.now []) }
-        ensures err { OnErr result (WritesSome (K.held out.old) (K.held out.new) self.old piece.now) }
+        requires hand { F.hand shelf.old ≡ Hand.Nothing }
+        requires ready { IsTrue (K.ready out.old) }
+        ensures ok { OnOk result (Goes (K.held out.old) (K.held out.new) self.old (files_told (F.told shelf.old)) self.new (files_told (F.told shelf.new)) piece.now []) }
+        ensures err { OnErr result (WritesSome (K.held out.old) (K.held out.new) self.old (files_told (F.told shelf.old)) piece.now) }
+        ensures hand { OnOk result (F.hand shelf.new ≡ Hand.Nothing) }
         ensures ready { OnOk result (IsTrue (K.ready out.new)) }
-        ensures cause { HasOutCause (K.faults out.old) (K.faults out.new) result }
+        ensures out_cause { HasOutCause (K.faults out.old) (K.faults out.new) result }
+        ensures file_cause { HasFaultCause (F.faults shelf.old) (F.faults shelf.new) result Stop.FileFault }
     {
         let mut rest = piece;
         'lines: while let Some(at) = line_end(rest) {
             let (line, behind) = rest.split_at(at);
-            self.end_line(alloc, line, moves)?;
+            self.end_line(alloc, line, shelf, moves)?;
             self.write_much(out)?;
             rest = &behind[1..];
         }
@@ -187,8 +215,8 @@ impl Run {
     // Writes the replies where they have become many.
     fn write_much<K: Sink>(&mut self, out: &mut K) -> Result<(), WriteFault>
         requires { IsTrue (K.ready out.old) }
-        ensures ok { OnOk result (Goes (K.held out.old) (K.held out.new) self.old self.new [] []) }
-        ensures err { OnErr result (WritesSome (K.held out.old) (K.held out.new) self.old []) }
+        ensures written { OnOk result (WritesOn (K.held out.old) (K.held out.new) self.old self.new) }
+        ensures err { OnErr result (GrowsByPrefix (K.held out.old) (K.held out.new) self.old.unwritten) }
         ensures ready { UnlessFailed result (IsTrue (K.ready out.new)) }
         ensures cause { HasWriteCause (K.faults out.old) (K.faults out.new) result }
     {

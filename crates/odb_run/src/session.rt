@@ -1,4 +1,4 @@
-ghost use Rattle.std.specs.Prelude.{◌≡◌, ◌≤◌, ◌∷◌, [], None, IfOk, OnErr, OnOk};
+ghost use Rattle.std.specs.Prelude.{◌≡◌, ◌↔◌, ◌≤◌, ◌∷◌, [], None, IfOk, IsTrue, OnErr, OnOk};
 ghost use Rattle.edits.specs.Plan.{CanAll, made as made_by};
 ghost use Rattle.steps_net.specs.Can.{Can};
 ghost use Rattle.steps_net.specs.Room.{lacks};
@@ -13,6 +13,7 @@ use edit_words::{Edit, Refusal, Step};
 use edits::plan;
 use library::Master;
 use odb_base::{EcoState, MasterId, Steps};
+use odb_save::{LoadFault, load};
 use std::alloc::{AllocError, Global};
 use std::marker::Model;
 use std::sync::ledger::Ledger;
@@ -63,7 +64,7 @@ impl Model for Session {
 
 impl Session {
     ghost use Rattle.odb_run.specs.Machine.{after_edit, start};
-    ghost use Rattle.odb_run.specs.Sessions.{Adds, Begins, Edits, IsPartDone, Undoes};
+    ghost use Rattle.odb_run.specs.Sessions.{Adds, Begins, Edits, IsPartDone, Puts, Undoes};
 
     /// A session over the empty database, whose tables have at most `cap` slots each.
     #[tactic(auto, unfolding(crate::specs::Machine::start))]
@@ -151,6 +152,23 @@ impl Session {
             Ok(id) => Ok(id),
             Err(AllocError) => Err(AddFault::Part(PartFault::Memory)),
         }
+    }
+
+    /// Whether no ECO stands.
+    pub fn is_without_eco(&self) -> bool
+        ensures { IsTrue result ↔ (self.now.eco ≡ None) }
+    {
+        self.journal.is_none()
+    }
+
+    /// Puts the database of saved bytes, with the cap of the one that stands, where no ECO stands. A refusal leaves
+    /// everything as it was.
+    pub fn load(&mut self, alloc: Global, bytes: &[u8]) -> Result<(), LoadFault>
+        requires { self.old.eco ≡ None }
+        ensures puts { Puts self.old bytes.now result self.new }
+    {
+        self.database = load(alloc, bytes, self.database.block.cap())?;
+        Ok(())
     }
 
     /// Opens an ECO. It takes no memory.

@@ -11,6 +11,8 @@ pub enum Status {
     ScriptFault = 3,
     /// Writing the replies failed.
     OutFault = 4,
+    /// Reading or writing a file failed.
+    FileFault = 5,
     /// The script has more than 2^30 bytes.
     ScriptTooLong = 6,
     /// There is no memory to go on.

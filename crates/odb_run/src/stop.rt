@@ -1,9 +1,10 @@
 ghost use Rattle.std.specs.Prelude.{◌≡◌};
-ghost use Rattle.odb_run.specs.Running.{status_of, stop_of};
+ghost use Rattle.odb_run.specs.Running.{file_stop_of, status_of, stop_of};
 ghost use Rattle.odb_run.specs.declared.stop.Stop.TheVariants.{Memory, ScriptFault};
 
 use crate::status::Status;
 use odb_outside::{Failed, WriteFault};
+use shelf_files::FileFault;
 use std::alloc::AllocError;
 
 /// What ends a run before its script has ended.
@@ -13,6 +14,8 @@ pub enum Stop {
     ScriptFault,
     /// Writing the replies failed.
     OutFault,
+    /// Reading or writing a file failed.
+    FileFault,
     /// The script has more than 2^30 bytes.
     ScriptTooLong,
     /// There is no memory to go on.
@@ -27,6 +30,7 @@ impl Stop {
         match self {
             Stop::ScriptFault => Status::ScriptFault,
             Stop::OutFault => Status::OutFault,
+            Stop::FileFault => Status::FileFault,
             Stop::ScriptTooLong => Status::ScriptTooLong,
             Stop::Memory => Status::Memory,
         }
@@ -57,5 +61,16 @@ impl From<AllocError> for Stop {
 
     fn from(_: AllocError) -> Self {
         Stop::Memory
+    }
+}
+
+impl From<FileFault> for Stop {
+    ghost from_gives = { λ fault stop. stop ≡ file_stop_of fault };
+
+    fn from(fault: FileFault) -> Self {
+        match fault {
+            FileFault::Failed => Stop::FileFault,
+            FileFault::Memory => Stop::Memory,
+        }
     }
 }

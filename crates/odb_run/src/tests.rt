@@ -2,11 +2,12 @@ ghost use Rattle.std.specs.Prelude.{◌≡◌, ◌<◌, IsTrue};
 ghost use Rattle.std.specs.List.{list_all};
 ghost use Rattle.odb_outside.specs.Calls.{is_call_number};
 
+mod files;
 mod rows;
 
 use crate::{Status, odb_main};
 use odb_base::Text;
-use odb_outside::{MemorySink, MemorySource};
+use odb_outside::{MemoryShelf, MemorySink, MemorySource};
 use rows::{ROWS, Row, Saved};
 use std::alloc::{AllocError, Global};
 use std::process::Abort;
@@ -62,7 +63,8 @@ fn run(
     let (failing_reads, failing_writes) = failing;
     let mut source = MemorySource::new(script.to_vec(alloc)?, reads, failing_reads);
     let mut sink = MemorySink::new(alloc, writes, failing_writes);
-    let status = odb_main(alloc, words, &mut source, &mut sink);
+    let mut shelf = MemoryShelf::new(alloc, 100, Vec::new(alloc));
+    let status = odb_main(alloc, words, &mut source, &mut sink, &mut shelf);
     Ok((status, sink.bytes().to_vec(alloc)?))
 }
 

@@ -1,3 +1,4 @@
+pub mod FileNames
 pub mod Digits
 pub mod TerminalLemmas
 pub mod WordLemmas

@@ -1,5 +1,5 @@
 -- What calls that read lines answer.
-use Rattle.std.specs.Prelude.{◌≡◌, List, ℕ, Result, Ok, Err, ⊤}
+use Rattle.std.specs.Prelude.{◌≡◌, List, ℕ, Option, None, Some, Result, Ok, Err, ⊤}
 use Rattle.std.specs.Borrow.{Bor}
 use Rattle.script_words.specs.declared.fault.LineFault.{LineFault}
 use Rattle.script_words.specs.declared.fault.LineFault.TheVariants as fault
@@ -16,11 +16,6 @@ abbrev pub IsWordTaken : Taken (List ℕ) → Result (Bor (List ℕ) × Bor (Lis
 IsWordTaken taken (Ok (word, rest)) = taken ≡ Ok (word.now, words_of rest.now)
 IsWordTaken taken (Err why) = taken ≡ Err why
 
--- The same of a word that isn't looked at again.
-abbrev pub IsRestTaken : Result Words LineFault → Result (Bor (List ℕ)) LineFault → Type 0
-IsRestTaken taken (Ok rest) = taken ≡ Ok (words_of rest.now)
-IsRestTaken taken (Err why) = taken ≡ Err why
-
 -- The same of something that is copied: or there is no memory, which says nothing.
 abbrev pub IsCopied : {A : Type 0} → Taken A → Result (A × Bor (List ℕ)) LineFault → Type 0
 IsCopied taken (Err fault.Memory) = ⊤
@@ -34,3 +29,10 @@ IsAnswer (Err fault.Memory) answer = ⊤
 IsAnswer (Err fault.UnknownCommand) answer = answer ≡ Err fault.UnknownCommand
 IsAnswer (Err fault.BadWords) answer = answer ≡ Err fault.BadWords
 IsAnswer (Ok x) answer = answer ≡ Ok x
+
+-- The word means this, or nothing and isn't of its form; or there is no memory, which says nothing.
+abbrev pub IsNamed : {A : Type 0} → Option A → Result A LineFault → Type 0
+IsNamed named (Ok x) = named ≡ Some x
+IsNamed named (Err fault.Memory) = ⊤
+IsNamed named (Err fault.BadWords) = named ≡ None
+IsNamed named (Err fault.UnknownCommand) = ⊥

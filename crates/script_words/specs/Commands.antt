@@ -11,7 +11,7 @@ use Rattle.script_words.specs.declared.command_words.Command.TheVariants as comm
 use Rattle.script_words.specs.declared.fault.LineFault.{LineFault}
 use Rattle.script_words.specs.declared.fault.LineFault.TheVariants as fault
 use Rattle.script_words.specs.Answers.{IsAnswer}
-use Rattle.script_words.specs.Forms.{◌>>=◌, Taken, Words, direction_at, end_at, id_at, kind_at, name_at, named_kind_at, number_at, orient_at, size_at, status_at, usage_at, word_at}
+use Rattle.script_words.specs.Forms.{◌>>=◌, Taken, Words, direction_at, end_at, file_at, id_at, kind_at, name_at, named_kind_at, number_at, orient_at, size_at, status_at, usage_at, word_at}
 use Rattle.script_words.specs.Words.{words_of}
 
 -- a command, no command in a blank line or a comment, or why the line is none
@@ -212,23 +212,23 @@ terms words = do
 
 -- The other lines.
 
--- `-`
-unfoldable pub dash : Words → Result Words LineFault
-dash [] = Err fault.BadWords
-dash (word ∷ words) = if bytes_eq word (codes "-") then Ok words else Err fault.BadWords
-
--- `save -`
-unfoldable pub save : Line
-save words = do
-  words ← dash words
+-- a command on the file of the name that ends the line
+unfoldable pub on_file : (List ℕ → Command) → Line
+on_file c words = do
+  (file, words) ← file_at words
   done ← end_at words
-  Ok command.SaveShown
+  Ok (c file)
 
 -- a command without arguments, as `counts`
 unfoldable pub bare : Command → Line
 bare c words = do
   done ← end_at words
   Ok c
+
+-- `save -` or `save FILE`
+unfoldable pub save : Line
+save [] = Err fault.BadWords
+save (word ∷ words) = if bytes_eq word (codes "-") then bare command.SaveShown words else on_file command.Save (word ∷ words)
 
 -- The table of commands, in three parts: each goes on with the one above it.
 
@@ -241,6 +241,7 @@ asking word words =
     else if bytes_eq word (codes "counts") then bare command.Counts words
     else if bytes_eq word (codes "terms") then terms words
     else if bytes_eq word (codes "save") then save words
+    else if bytes_eq word (codes "load") then on_file command.Load words
     else if bytes_eq word (codes "eco_begin") then bare command.EcoBegin words
     else if bytes_eq word (codes "eco_undo") then bare command.EcoUndo words
     else Err fault.UnknownCommand

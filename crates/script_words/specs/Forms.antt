@@ -1,5 +1,6 @@
 -- The forms of words in script lines, and the words of a line taken one after another.
-use Rattle.std.specs.Prelude.{◌==◌, ◌&&◌, ◌*◌, ◌+◌, ◌-◌, Bool, true, false, List, [], ◌∷◌, ℕ, ℤ, pos, negsuc, neg_ℤ, int_le, Option, None, Some, Result, Ok, Err, if◌then◌else◌, nat_le, option_and_then, codes, drop, fold, length, slice_index}
+use Rattle.std.specs.Prelude.{◌==◌, ◌&&◌, ◌||◌, ◌*◌, ◌+◌, ◌-◌, Bool, true, false, List, [], ◌∷◌, ℕ, ℤ, pos, negsuc, neg_ℤ, int_le, Option, None, Some, Result, Ok, Err, if◌then◌else◌, nat_le, not, option_and_then, codes, drop, fold, length, slice_index}
+use Rattle.std.specs.Char.{is_ascii_alphanumeric}
 use Rattle.std.specs.List.{list_all, find}
 use Rattle.std.specs.Option.{option_map}
 use Rattle.std.specs.Str.{bytes_eq}
@@ -96,6 +97,23 @@ lawful word (Some fault) = None
 unfoldable pub name_named : List ℕ → Option (List ℕ)
 name_named word = lawful word (name_fault word)
 
+-- a letter, a digit, `.`, `_` or `-`
+abbrev pub is_file_byte : ℕ → Bool
+is_file_byte b = is_ascii_alphanumeric b || b == 46 || b == 95 || b == 45
+
+-- `.` or `-`
+abbrev pub is_mark : ℕ → Bool
+is_mark b = b == 46 || b == 45
+
+-- 1 to 255 letters, digits, `.`, `_` and `-`, the first neither `.` nor `-`
+abbrev pub is_file_name : List ℕ → Bool
+is_file_name [] = false
+is_file_name (first ∷ rest) = not (is_mark first) && nat_le (length (first ∷ rest)) 255 && list_all is_file_byte (first ∷ rest)
+
+-- the name of a file
+unfoldable pub file_named : List ℕ → Option (List ℕ)
+file_named word = if is_file_name word then Some word else None
+
 -- a kind whose objects have names
 abbrev pub has_names : Kind → Bool
 has_names kind.Inst = true
@@ -178,3 +196,7 @@ size_at words = form_at size_named words
 -- a lawful name
 abbrev pub name_at : Words → Taken (List ℕ)
 name_at words = form_at name_named words
+
+-- the name of a file
+abbrev pub file_at : Words → Taken (List ℕ)
+file_at words = form_at file_named words

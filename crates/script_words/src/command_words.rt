@@ -1,3 +1,4 @@
+use crate::file_name::FileName;
 use edit_words::Edit;
 use library::Master;
 use odb_base::{Kind, Text};
@@ -19,8 +20,12 @@ pub enum Command {
     Counts,
     /// `terms NET`: the terminals of a net.
     Terms { net: u32 },
+    /// `save FILE`: the saved bytes into a file.
+    Save { file: FileName },
     /// `save -`: the saved bytes in the reply.
     SaveShown,
+    /// `load FILE`: the database of the saved bytes in a file.
+    Load { file: FileName },
     /// `eco_begin`
     EcoBegin,
     /// `eco_undo`

@@ -1,9 +1,10 @@
 ghost use Rattle.std.specs.Prelude.{◌≡◌};
 ghost use Rattle.script_words.specs.Answers.{IsCopied, IsTaken, IsWordTaken};
-ghost use Rattle.script_words.specs.Forms.{end_at, fitting, has_names, id_at, identifier, name_at, named_kind_at, number_at, size_at, value_at, word_at};
+ghost use Rattle.script_words.specs.Forms.{end_at, file_at, fitting, has_names, id_at, identifier, name_at, named_kind_at, number_at, size_at, value_at, word_at};
 ghost use Rattle.script_words.specs.Words.{words_of};
 
 use crate::fault::LineFault;
+use crate::file_name::FileName;
 use crate::number::number_named;
 use crate::words::next_word;
 use odb_base::{Kind, Name, NameFault, Text, Worded};
@@ -129,4 +130,14 @@ fn fitting(number: i64) -> Option<i32>
     } else {
         None
     }
+}
+
+/// The name of a file that the next word is, and what stands behind it.
+#[tactic(auto, unfolding(crate::specs::Forms::form_at))]
+pub fn file(alloc: Global, line: &[u8]) -> Result<(FileName, &[u8]), LineFault>
+    ensures { IsCopied (file_at (words_of line.now)) result }
+{
+    let (word, rest) = word(line)?;
+    let file = FileName::new(alloc, word)?;
+    Ok((file, rest))
 }

@@ -1,14 +1,16 @@
-//! The lines of queries and the other lines without names to be entered, one function each. Each takes the
+//! The lines of queries, of files, and the other lines without names to be entered, one function each. Each takes the
 //! words behind the command's word.
 
 ghost use Rattle.std.specs.Prelude.{◌≡◌};
-ghost use Rattle.script_words.specs.Commands.{bare, dash, find, free, list, save, terms};
-ghost use Rattle.script_words.specs.Answers.{IsAnswer, IsRestTaken};
+ghost use Rattle.script_words.specs.Commands.{bare, find, free, list, on_file, save, terms};
+ghost use Rattle.script_words.specs.declared.command_words.Command.TheVariants as command;
+ghost use Rattle.script_words.specs.Answers.{IsAnswer};
 ghost use Rattle.script_words.specs.Words.{words_of};
 
 use crate::command_words::Command;
 use crate::fault::LineFault;
-use crate::forms::{end, id, named_kind, text, word, worded};
+use crate::forms::{end, file, id, named_kind, text, worded};
+use crate::words::next_word;
 use std::alloc::Global;
 
 /// `find KIND NAME`.
@@ -52,14 +54,36 @@ pub fn terms(line: &[u8]) -> Result<Command, LineFault>
     Ok(Command::Terms { net })
 }
 
-/// `save -`.
+/// `save -` or `save FILE`.
 #[tactic(auto, unfolding(crate::specs::Commands::save))]
-pub fn save(line: &[u8]) -> Result<Command, LineFault>
+pub fn save(alloc: Global, line: &[u8]) -> Result<Command, LineFault>
     ensures { IsAnswer result (save (words_of line.now)) }
 {
-    let line = dash(line)?;
+    match next_word(line) {
+        None => Err(LineFault::BadWords),
+        Some((word, rest)) if word == b"-".as_slice() => bare(Command::SaveShown, rest),
+        Some(_) => save_to(alloc, line),
+    }
+}
+
+// `save FILE`, behind the command's word.
+#[tactic(auto, unfolding(crate::specs::Commands::on_file))]
+fn save_to(alloc: Global, line: &[u8]) -> Result<Command, LineFault>
+    ensures { IsAnswer result (on_file command.Save (words_of line.now)) }
+{
+    let (file, line) = file(alloc, line)?;
     end(line)?;
-    Ok(Command::SaveShown)
+    Ok(Command::Save { file })
+}
+
+/// `load FILE`.
+#[tactic(auto, unfolding(crate::specs::Commands::on_file))]
+pub fn load(alloc: Global, line: &[u8]) -> Result<Command, LineFault>
+    ensures { IsAnswer result (on_file command.Load (words_of line.now)) }
+{
+    let (file, line) = file(alloc, line)?;
+    end(line)?;
+    Ok(Command::Load { file })
 }
 
 /// A command without arguments.
@@ -69,17 +93,4 @@ pub fn bare(command: Command, line: &[u8]) -> Result<Command, LineFault>
 {
     end(line)?;
     Ok(command)
-}
-
-// What stands behind a word that is `-`.
-#[tactic(auto, unfolding(crate::specs::Commands::dash, crate::specs::Forms::word_at))]
-fn dash(line: &[u8]) -> Result<&[u8], LineFault>
-    ensures { IsRestTaken (dash (words_of line.now)) result }
-{
-    let (word, rest) = word(line)?;
-    if word == b"-".as_slice() {
-        Ok(rest)
-    } else {
-        Err(LineFault::BadWords)
-    }
 }

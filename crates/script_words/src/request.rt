@@ -10,7 +10,7 @@ use crate::edit_lines::{
 };
 use crate::fault::LineFault;
 use crate::master_line::master;
-use crate::query_lines::{bare, find, free, list, save, terms};
+use crate::query_lines::{bare, find, free, list, load, save, terms};
 use crate::words::next_word;
 use std::alloc::Global;
 
@@ -111,7 +111,10 @@ fn asking(alloc: Global, word: &[u8], words: &[u8]) -> Result<Command, LineFault
         return terms(words);
     }
     if word == b"save".as_slice() {
-        return save(words);
+        return save(alloc, words);
+    }
+    if word == b"load".as_slice() {
+        return load(alloc, words);
     }
     if word == b"eco_begin".as_slice() {
         return bare(Command::EcoBegin, words);

@@ -19,7 +19,7 @@ pub struct Row {
 }
 
 // Each with ample memory, so none of them ends for want of it.
-pub const ROWS: [Row; 22] = [
+pub const ROWS: [Row; 24] = [
     Row {
         script: b"",
         replies: b"",
@@ -49,7 +49,7 @@ pub const ROWS: [Row; 22] = [
     },
     // Lines that are no command.
     Row {
-        script: b"frob\nnew_net\nnew_net a b\nsave\nsave f\neco_begin x\n",
+        script: b"frob\nnew_net\nnew_net a b\nsave\nsave .f\neco_begin x\n",
         replies: b"refused 21 UnknownCommand\nrefused 22 BadWords\nrefused 22 BadWords\nrefused 22 BadWords\nrefused 22 BadWords\nrefused 22 BadWords\n",
         saved: Saved::Nothing,
         status: Status::Refused,
@@ -172,5 +172,19 @@ pub const ROWS: [Row; 22] = [
         replies: b"ok 1 1 0 0 0\nok 2 1 0 0 0\nok 1 1 0 0 0\nok 2\n1 b\n2 a\nok 1\n1 p\nok 0\nok 1\nbterm 1 p\nok 0 0 2 1 0 0 0 0 0 0 0 0\n",
         saved: Saved::Nothing,
         status: Status::Done,
+    },
+    // A file is saved and loaded, and nothing that came between is left.
+    Row {
+        script: b"new_net a\nsave f\nnew_net b\nload f\nlist net\n",
+        replies: b"ok 1 1 0 0 0\nok 176\nok 2 1 0 0 0\nok 176\nok 1\n1 a\n",
+        saved: Saved::Nothing,
+        status: Status::Done,
+    },
+    // A file that isn't there, and one that is saved while an ECO stands.
+    Row {
+        script: b"load nofile\nnew_net a\neco_begin\nload f\nsave f\neco_undo\nload f\nload f.2\nsave -\n",
+        replies: b"refused 25 NoFile\nok 1 1 0 0 0\nok\nrefused 24 WrongState Open\nok 176\nok 0\nok 176\nrefused 25 NoFile\n",
+        saved: Saved::OneNet,
+        status: Status::Refused,
     },
 ];
