@@ -1,0 +1,4 @@
+pub mod Answered
+pub mod Spelled
+pub mod SpelledMacros
+pub mod SpelledTexts

@@ -1,0 +1,6 @@
+pub mod Answers
+pub mod Laws
+pub mod MacroSpelling
+pub mod Reading
+pub mod Spelling
+pub mod TextSpelling

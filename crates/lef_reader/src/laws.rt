@@ -1,0 +1,47 @@
+// Laws of the grammar. Each is the contract of a function that does nothing.
+
+ghost use Rattle.lef_reader.specs.Laws.{AnswersAreOne, LayerLinesAreRead, LayersAreRead, LinesSayNothing, MacroLinesAreRead, MacrosAreRead, OthersArePassedOver, PartsArePassedOver, PinsAreRead, SiteLinesAreRead, SitesAreRead, TextsAreRead, ViasAreRead};
+
+/// A text has one answer, and the lines of its words say nothing but where a fault is.
+pub fn texts_have_one_answer()
+    ensures one { AnswersAreOne }
+    ensures lines { LinesSayNothing }
+{}
+
+/// A statement of a layer changes what it says of the layer and nothing else, and a layer of any statements in
+/// any order is read as that layer.
+pub fn layers_are_read()
+    ensures lines { LayerLinesAreRead }
+    ensures layers { LayersAreRead }
+{}
+
+/// The like of sites.
+pub fn sites_are_read()
+    ensures lines { SiteLinesAreRead }
+    ensures sites { SitesAreRead }
+{}
+
+/// A statement that begins with a word of no row is passed over: it changes nothing but the count. So does any
+/// other part that is passed over, up to the word that ends it.
+pub fn other_statements_are_passed_over()
+    ensures statements { OthersArePassedOver }
+    ensures parts { PartsArePassedOver }
+{}
+
+/// A via of any shapes, whatever words stand behind its name, is read as that via.
+pub fn vias_are_read()
+    ensures { ViasAreRead }
+{}
+
+/// A statement of a macro, or a section in it, changes what it says of the macro and nothing else, and a macro of
+/// any statements in any order, with parts between them that are passed over, is read as that macro. A second pin of a name is left out and counted.
+pub fn macros_are_read()
+    ensures pins { PinsAreRead }
+    ensures lines { MacroLinesAreRead }
+    ensures macros { MacrosAreRead }
+{}
+
+/// A text of such sections in any order, with `END LIBRARY` and whatever behind them, has the tree that they say.
+pub fn texts_are_read()
+    ensures { TextsAreRead }
+{}
