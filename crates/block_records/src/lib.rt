@@ -30,7 +30,7 @@ pub use header::{BlockVia, Header, PropDef};
 pub use inst::{InstRec, Terminals};
 pub use iterm::ITermRec;
 pub use net::NetRec;
-pub use pin::{LayerRect, LayerRects, PinRec};
+pub use pin::{LayerRects, PinRec};
 pub use prop::PropRec;
 pub use record::Record;
 pub use region::{Rects, RegionRec};

@@ -1,15 +1,7 @@
-use odb_base::{List, Placement, Rect, Text};
-
-/// A rectangle on a layer.
-#[derive(Clone, Copy, Debug, PartialEq, Eq)]
-pub struct LayerRect {
-    /// The number of the layer in the technology, from 1.
-    pub layer: u32,
-    pub rect: Rect,
-}
+use odb_base::{List, Placement, Shape, Text};
 
 /// Rectangles on layers, in the order in which they were given.
-pub type LayerRects = List<LayerRect>;
+pub type LayerRects = List<Shape>;
 
 /// A pin of a block terminal: a port of DEF.
 #[derive(Debug, Drop)]

@@ -1,4 +1,1 @@
-pub mod Ids
-pub mod Keeping
-pub mod Naming
-pub mod Places
+pub mod TerminalNames

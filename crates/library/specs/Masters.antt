@@ -1,17 +1,17 @@
 -- The masters of a library, by id and by name.
-use Rattle.std.specs.Prelude.{◌==◌, ◌+◌, ◌-◌, List, [], ℕ, Option, None, if◌then◌else◌, slice_get}
-use Rattle.std.specs.Option.{option_map, option_map_or}
+use Rattle.std.specs.Prelude.{List, [], ℕ, Option}
+use Rattle.std.specs.Option.{option_map_or}
+use Rattle.named_list.specs.Naming.{AreNamesDistinct, at_id, id_named}
 use Rattle.library.specs.declared.master.Master.{Master}
 use Rattle.library.specs.declared.mterm.MTerm.{MTerm}
-use Rattle.library.specs.Named.{AreNamesDistinct, place_named}
 
 -- the master of an id, which is its place from 1
 abbrev pub master_at : List Master → ℕ → Option Master
-master_at masters id = if id == 0 then None else slice_get masters (id - 1)
+master_at masters id = at_id masters id
 
 -- the id of the first master of this name
 abbrev pub find_master : List Master → List ℕ → Option ℕ
-find_master masters name = option_map (λ place. place + 1) (place_named (λ master. master.name) masters name)
+find_master masters name = id_named (λ master. master.name) masters name
 
 -- no two masters have one name
 abbrev pub HasDistinctNames : List Master → Type 0

@@ -1,9 +1,9 @@
 -- The terminals of a master.
 use Rattle.std.specs.Prelude.{◌^◌, List, ℕ, Option, Some, None, if◌then◌else◌, nat_lt, slice_get}
 use Rattle.std.specs.Option.{option_map}
+use Rattle.named_list.specs.Naming.{AreNamesDistinct, place_named}
 use Rattle.library.specs.declared.master.Master.{Master}
 use Rattle.library.specs.declared.mterm.MTerm.{MTerm}
-use Rattle.library.specs.Named.{AreNamesDistinct, place_named}
 
 -- the place, from 0, of the first terminal of this name
 abbrev pub term_index : Master → List ℕ → Option ℕ

@@ -4,10 +4,10 @@
 //! [`Library`] keeps masters in the order of their entry and numbers them from 1; no two of them have one name,
 //! and there are at most [`MASTER_LIMIT`]. Contracts see a library as the list of its masters.
 //!
-//! [`Library::master`] reads the place of the id. [`Library::find_master`] and [`Library::add_master`] hash the
-//! name and, on average, take a time that doesn't grow with the number of masters. [`Library::cut`] takes a step
-//! for each master that goes. [`Master::term_index`] compares the name with those of the terminals, from the first
-//! on. Only [`Library::add_master`] takes memory: for a copy of the name, and now and then for a larger table.
+//! It is a list of named things: [`Library::find_master`] and [`Library::add_master`] hash the name and, on average,
+//! take a time that doesn't grow with the number of masters. [`Library::cut`] takes a step for each master that goes.
+//! [`Master::term_index`] compares the name with those of the terminals, from the first on. Only
+//! [`Library::add_master`] takes memory: for a copy of the name, and now and then for a larger table.
 //!
 //! A library judges the names of its masters and their number, and nothing else: whether sizes, layers, sites and
 //! terminals are lawful is for whoever enters a master.
@@ -17,13 +17,12 @@ pub mod laws;
 pub mod library;
 pub mod master;
 pub mod mterm;
-pub mod shape;
 
-pub use laws::{ids_after_changes, ids_and_names, places_and_names};
+pub use laws::masters_and_terminals;
 pub use library::{Library, MASTER_LIMIT};
 pub use master::Master;
 pub use mterm::MTerm;
-pub use shape::Shape;
+pub use odb_base::Shape;
 
 #[cfg(test)]
 mod tests;

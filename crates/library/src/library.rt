@@ -3,7 +3,7 @@ ghost use Rattle.std.specs.Option.{option_copied, option_map};
 ghost use Rattle.library.specs.Masters.{HasDistinctNames, find_master, master_at};
 
 use crate::master::Master;
-use indexmap::IndexMap;
+use named_list::NamedList;
 use odb_base::MasterId;
 use std::alloc::{AllocError, Global};
 use std::marker::Model;
@@ -15,21 +15,19 @@ pub const MASTER_LIMIT: u32 = 1_000_000;
 /// master is its place from 1. No two have one name, and there are at most [`MASTER_LIMIT`].
 #[derive(Drop)]
 pub struct Library {
-    // Under the bytes of its name.
-    masters: IndexMap<Vec<u8>, Master>,
+    masters: NamedList<Master>,
 }
 
 impl Model for Library {
-    ghost use Rattle.std.specs.Prelude.{List};
+    ghost use Rattle.std.specs.Prelude.{◌≤◌, List, length};
+    ghost use Rattle.library.specs.declared.library.TheConstants.{MASTER_LIMIT};
     ghost use Rattle.library.specs.declared.master.Master.{Master};
 
     ghost Value = { List Master };
 
-    ghost use Rattle.library.specs.Kept.{IsKept, masters_of};
+    ghost view = { λ l. l.masters };
 
-    ghost view = { λ l. masters_of l.masters.entries };
-
-    ghost invariant = { λ l. IsKept l.masters.entries };
+    ghost invariant = { λ l. length l.masters ≤ MASTER_LIMIT };
 }
 
 impl Library {
@@ -38,7 +36,7 @@ impl Library {
         ensures { result ≡ [] }
     {
         Library {
-            masters: IndexMap::new(alloc),
+            masters: NamedList::new(alloc),
         }
     }
 
@@ -48,24 +46,29 @@ impl Library {
         ensures limit { result ≤ MASTER_LIMIT }
         ensures distinct { HasDistinctNames self.now }
     {
-        self.masters.len() as u32
+        self.masters.count()
+    }
+
+    /// The masters.
+    pub fn masters(&self) -> &NamedList<Master>
+        ensures { result.now ≡ self.now }
+    {
+        &self.masters
     }
 
     /// The master of this id, `None` where no master has it.
     pub fn master(&self, id: MasterId) -> Option<&Master>
         ensures { option_copied result ≡ master_at self.now id.0 }
     {
-        let place = id.0.checked_sub(1)?;
-        let (_, master) = self.masters.get_index(place as usize)?;
-        Some(master)
+        self.masters.get(id.0)
     }
 
     /// The id of the master of this name, `None` where no master has it.
     pub fn find_master(&self, name: &[u8]) -> Option<MasterId>
         ensures { option_map (λ id. id.0) result ≡ find_master self.now name.now }
     {
-        let place = self.masters.get_index_of(name)?;
-        Some(MasterId(place as u32 + 1))
+        let id = self.masters.find(name)?;
+        Some(MasterId(id))
     }
 
     /// Puts a master last, and gives its id. No master may have its name, and there must be fewer than
@@ -77,11 +80,8 @@ impl Library {
         ensures id { IfOk result (λ id. id.0 ≡ length self.old + 1) }
         ensures err { OnErr result (self.new ≡ self.old) }
     {
-        let name = master.name.bytes().to_vec(*self.masters.allocator())?;
-        match self.masters.insert(name, master) {
-            Ok(_) => Ok(MasterId(self.masters.len() as u32)),
-            Err(_) => Err(AllocError),
-        }
+        let id = self.masters.push(master)?;
+        Ok(MasterId(id))
     }
 
     /// Keeps so many first masters, of which there must be at least so many. It takes no memory.
@@ -89,6 +89,6 @@ impl Library {
         requires { masters ≤ length self.old }
         ensures { self.new ≡ take masters self.old }
     {
-        self.masters.truncate(masters as usize);
+        self.masters.cut(masters);
     }
 }

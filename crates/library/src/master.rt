@@ -1,10 +1,10 @@
 ghost use Rattle.std.specs.Prelude.{◌≡◌, ◌≤◌, ◌^◌, length};
-ghost use Rattle.library.specs.Named.{place_named};
+ghost use Rattle.named_list.specs.Naming.{place_named};
 ghost use Rattle.library.specs.Terminals.{in_u32, term_index};
 
 use crate::mterm::MTerm;
-use crate::shape::Shape;
-use odb_base::{List, Name, Text};
+use named_list::Named;
+use odb_base::{List, Name, Shape, Text};
 
 /// A master: what LEF calls a macro, with the fields of that statement (LEF/DEF 5.8 Language Reference, MACRO).
 #[derive(Debug, Drop)]
@@ -28,6 +28,14 @@ pub struct Master {
     pub terminals: List<MTerm>,
     /// The shapes of `OBS`, in the order of entry.
     pub obstructions: List<Shape>,
+}
+
+impl Named for Master {
+    ghost name_of = { λ m. m.name };
+
+    fn name(&self) -> &Name {
+        &self.name
+    }
 }
 
 impl Master {

@@ -1,5 +1,4 @@
-use crate::shape::Shape;
-use odb_base::{Direction, List, Name, Usage};
+use odb_base::{Direction, List, Name, Shape, Usage};
 
 /// A terminal of a master: what LEF calls a pin of a macro (LEF/DEF 5.8 Language Reference, Macro Pin).
 #[derive(Debug, Drop)]

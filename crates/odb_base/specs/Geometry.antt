@@ -2,6 +2,7 @@
 use Rattle.std.specs.Prelude.{ℤ, pos, ◌≤ℤ◌, neg_ℤ}
 use Rattle.odb_base.specs.declared.codes.orient.Orient.{Orient}
 use Rattle.odb_base.specs.declared.codes.orient.Orient.TheVariants as orient
+use Rattle.odb_base.specs.declared.geometry.Rect.{Rect}
 use Rattle.odb_base.specs.declared.geometry.TheConstants.{COORDINATE_LIMIT}
 
 -- width and height of an object of these once it is turned
@@ -18,3 +19,12 @@ oriented orient.FE w h = (h, w)
 -- the number is within the limit of coordinates
 abbrev pub IsCoordinate : ℤ → Type 0
 IsCoordinate n = (neg_ℤ (pos COORDINATE_LIMIT) ≤ℤ n) × (n ≤ℤ pos COORDINATE_LIMIT)
+
+-- a rectangle has lawful coordinates, and goes from its lower left corner to its upper right one
+pub record IsRect (r : Rect) : Type 0 where
+  pub xl : IsCoordinate r.xl
+  pub yl : IsCoordinate r.yl
+  pub xh : IsCoordinate r.xh
+  pub yh : IsCoordinate r.yh
+  pub wide : r.xl ≤ℤ r.xh
+  pub high : r.yl ≤ℤ r.yh

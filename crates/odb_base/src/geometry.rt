@@ -3,6 +3,7 @@ ghost use Rattle.odb_base.specs.Geometry.{oriented};
 
 use crate::codes::orient::Orient;
 use crate::codes::place_status::PlaceStatus;
+use crate::id::LayerId;
 
 /// The greatest coordinate, distance, width or step, in database units; the least is its negative.
 pub const COORDINATE_LIMIT: u32 = 2_000_000_000;
@@ -22,6 +23,14 @@ pub struct Rect {
     pub yl: i32,
     pub xh: i32,
     pub yh: i32,
+}
+
+/// A rectangle on a layer, of a via, a terminal, an obstruction or a pin.
+#[derive(Clone, Copy, Debug, PartialEq, Eq)]
+pub struct Shape {
+    pub layer: LayerId,
+    /// In the coordinates of what it is a part of.
+    pub rect: Rect,
 }
 
 /// Where an instance or a pin stands, in database units. One that is unplaced stands at 0, 0 and is turned N.

@@ -34,7 +34,7 @@ pub use codes::usage::Usage;
 pub use codes::wire_status::WireStatus;
 pub use codes::{Coded, Worded};
 pub use eco_state::EcoState;
-pub use geometry::{COORDINATE_LIMIT, Placement, Point, Rect, oriented_size};
+pub use geometry::{COORDINATE_LIMIT, Placement, Point, Rect, Shape, oriented_size};
 pub use id::{
     BTermId, BlockageId, GroupId, ITermId, InstId, LayerId, MasterId, NetId, PinId, PropId,
     RegionId, RowId, SiteId, TrackId, ViaId, WireId,

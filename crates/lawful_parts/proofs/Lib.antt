@@ -1,0 +1,5 @@
+pub mod Growing
+pub mod MasterTests
+pub mod PartTests
+pub mod ShapeTests
+pub mod TestLemmas

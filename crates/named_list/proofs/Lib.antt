@@ -1,0 +1,4 @@
+pub mod Ids
+pub mod Keeping
+pub mod Naming
+pub mod Places
