@@ -10,7 +10,7 @@ use Rattle.library.specs.Masters.{master_at}
 use Rattle.library.specs.Terminals.{term_index}
 use Rattle.library.specs.declared.master.Master.{Master}
 use Rattle.library.specs.declared.mterm.MTerm.{MTerm}
-use Rattle.library.proofs.Naming.{found_is_named, unnamed}
+use Rattle.named_list.proofs.Naming.{found_is_named, unnamed}
 use Rattle.block_store.specs.Block.{Block, live_in, next_in}
 use Rattle.block_store.specs.Names.{HasNames, IsFree, find_in}
 use Rattle.block_store.proofs.Naming.{free_names_are_not_found}

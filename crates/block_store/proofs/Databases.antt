@@ -9,15 +9,22 @@ use Rattle.block_records.specs.Header.{new_header}
 use Rattle.library.specs.Masters.{find_master, master_at}
 use Rattle.library.specs.declared.library.TheConstants.{MASTER_LIMIT}
 use Rattle.library.specs.declared.master.Master.{Master}
-use Rattle.library.proofs.Ids.{entering_keeps_distinct, growing_keeps_ids}
-use Rattle.library.proofs.Places.{push_cases}
+use Rattle.named_list.proofs.Ids.{Placed, growing_keeps_ids, placed}
+use Rattle.tech.specs.Technology.{Technology, find_layer, find_site, find_via, with_layer, with_site, with_units, with_via}
+use Rattle.tech.specs.declared.layer.Layer.{Layer}
+use Rattle.tech.specs.declared.site.Site.{Site}
+use Rattle.tech.specs.declared.tech.TheConstants.{LIST_LIMIT}
+use Rattle.tech.specs.declared.via.TechVia.{TechVia}
+use Rattle.lawful_parts.specs.Laws.{HasGrown}
+use Rattle.lawful_parts.specs.Lawful.{IsLayer, IsLibrary, IsMaster, IsSite, IsTechVia, IsTechnology}
+use Rattle.lawful_parts.specs.declared.shapes.TheConstants.{UNIT_LIMIT}
+use Rattle.lawful_parts.proofs.Growing.{entering_keeps_libraries, growing_keeps_libraries, layer_has_grown, layers_keep_lawful, site_has_grown, sites_keep_lawful, units_have_grown, units_keep_lawful, via_has_grown, vias_keep_lawful}
 use Rattle.block_store.specs.declared.block.TheConstants.{SLOT_LIMIT}
 use Rattle.block_store.specs.Block.{Block, empty_block, empty_table}
-use Rattle.block_store.specs.Database.{Database, IsLibrary, IsMaster, IsSoundDatabase, empty_database}
+use Rattle.block_store.specs.Database.{Database, IsSoundDatabase, empty_database, with_master, with_tech}
 use Rattle.block_store.specs.Lists.{list_in}
 use Rattle.block_store.specs.Names.{name_by}
 use Rattle.block_store.specs.Sound.{AreEach, AreHeld, AreNamed, ArePlaced, HasLawfulMasters, HasNoOthers, IsInst, IsSound, IsTable, term_count}
-use Rattle.tech.specs.Technology.{Technology}
 
 module _ {A : Type 0} where
   -- an empty table has no record
@@ -67,25 +74,25 @@ sound_empty tech library cap lawful = record {
   placed = placed_empty _ _ (λ inst. ap (list_in (λ e. e.fields.terminals)) (none_in_empty inst)) (λ id. ap (option_map (λ r. (r.inst, r.index))) (none_in_empty id));
 }
 
--- a master stands at the place before its identifier
-at_place : (library : List Master) (id : ℕ) (m : Master) → master_at library id ≡ Some m → slice_get library (id - 1) ≡ Some m
-at_place library id m found = elim (cases_Bool (eqb id 0)) [
-  | inl e ↦ let none : None ≡ Some m = rw e at found in cc
-  | inr e ↦ rw e at found
-]
-
 -- an empty library has no master
 no_master : (id : ℕ) (m : Master) → master_at [] id ≡ Some m → ⊥
-no_master id m found = let at = at_place [] id m found in cc
+no_master id m found = let at = (placed [] id m found).at in cc
 
 -- the masters of a lawful library are lawful
-lawful_masters : (library : List Master) → IsLibrary library → HasLawfulMasters library
-lawful_masters library is id m found = (is.masters (id - 1) m (at_place library id m found)).distinct
+lawful_masters : (t : Technology) (library : List Master) → IsLibrary t library → HasLawfulMasters library
+lawful_masters t library is id m found = (is.masters (id - 1) m (placed library id m found).at).distinct
 
 -- the database without masters and objects is sound
 pub sound_database : (cap : ℕ) → cap ≤ SLOT_LIMIT → IsSoundDatabase (empty_database cap)
 sound_database cap within = record {
-  units = omega arith;
+  tech = record {
+    units = omega arith;
+    layers = λ place l found. cc;
+    vias = λ place v found. cc;
+    sites = λ place s found. cc;
+    distinct = record { layers = λ i j a b here there same. cc; vias = λ i j a b here there same. cc; sites = λ i j a b here there same. cc };
+    few = record { layers = omega arith; vias = omega arith; sites = omega arith };
+  };
   library = record { masters = λ place m found. cc; distinct = λ i j a b here there same. cc; few = omega arith };
   block = sound_empty _ [] cap (λ id m found. absurd (no_master id m found));
   capped = within;
@@ -126,23 +133,55 @@ sound_grown tech library more cap b lawful sound = record {
   placed = sound.placed;
 }
 
-library_grown : (library : List Master) (m : Master) → IsLibrary library → IsMaster m → find_master library m.name ≡ None → length library < MASTER_LIMIT → IsLibrary (library ++ m ∷ [])
-library_grown library m is lawful new room = record {
-  masters = λ place x found. elim (push_cases library m place x found) [
-    | inl before ↦ is.masters place x before
-    | inr last ↦ rw last.1 lawful
-  ];
-  distinct = entering_keeps_distinct library m is.distinct new;
-  few = let long = length_push library m in omega (arith, long);
-}
-
 -- a lawful master of a new name comes last
-pub sound_with_master : (d : Database) (m : Master) → IsSoundDatabase d → IsMaster m → find_master d.library m.name ≡ None → length d.library < MASTER_LIMIT → IsSoundDatabase (record d { library = d.library ++ m ∷ [] })
+pub sound_with_master : (d : Database) (m : Master) → IsSoundDatabase d → IsMaster d.tech m → find_master d.library m.name ≡ None → length d.library < MASTER_LIMIT → IsSoundDatabase (with_master m d)
 sound_with_master d m sound lawful new room =
-    let grown = library_grown d.library m sound.library lawful new room in
+    let grown = entering_keeps_libraries d.tech d.library m sound.library lawful new room in
     record {
-      units = sound.units;
+      tech = sound.tech;
       library = grown;
-      block = sound_grown d.tech d.library (m ∷ []) d.cap d.block (lawful_masters _ grown) sound.block;
+      block = sound_grown d.tech d.library (m ∷ []) d.cap d.block (lawful_masters d.tech _ grown) sound.block;
       capped = sound.capped;
     }
+
+-- nothing in a block names a part of the technology yet
+sound_over : (t u : Technology) (library : List Master) (cap : ℕ) (b : Block) → IsSound t library cap b → IsSound u library cap b
+sound_over t u library cap b sound = record {
+  masters = sound.masters;
+  header = sound.header;
+  inst = sound.inst;
+  iterm = sound.iterm;
+  net = sound.net;
+  bterm = sound.bterm;
+  others = sound.others;
+  insts = sound.insts;
+  nets = sound.nets;
+  bterms = sound.bterms;
+  inst_names = sound.inst_names;
+  net_names = sound.net_names;
+  bterm_names = sound.bterm_names;
+  iterms_held = sound.iterms_held;
+  bterms_held = sound.bterms_held;
+  placed = sound.placed;
+}
+
+-- another lawful technology with as many layers and sites, or more
+sound_with_tech : (d : Database) (t : Technology) → IsSoundDatabase d → IsTechnology t → HasGrown d.tech t → IsSoundDatabase (with_tech t d)
+sound_with_tech d t sound lawful grown = record {
+  tech = lawful;
+  library = growing_keeps_libraries d.tech t d.library grown sound.library;
+  block = sound_over d.tech t d.library d.cap d.block sound.block;
+  capped = sound.capped;
+}
+
+pub sound_with_units : (d : Database) (n : ℕ) → IsSoundDatabase d → n ≤ UNIT_LIMIT → IsSoundDatabase (with_tech (with_units n d.tech) d)
+sound_with_units d n sound few = sound_with_tech d (with_units n d.tech) sound (units_keep_lawful d.tech n sound.tech few) (units_have_grown d.tech n)
+
+pub sound_with_layer : (d : Database) (l : Layer) → IsSoundDatabase d → IsLayer l → find_layer d.tech l.name ≡ None → length d.tech.layers < LIST_LIMIT → IsSoundDatabase (with_tech (with_layer l d.tech) d)
+sound_with_layer d l sound lawful new room = sound_with_tech d (with_layer l d.tech) sound (layers_keep_lawful d.tech l sound.tech lawful new room) (layer_has_grown d.tech l)
+
+pub sound_with_via : (d : Database) (v : TechVia) → IsSoundDatabase d → IsTechVia d.tech v → find_via d.tech v.name ≡ None → length d.tech.vias < LIST_LIMIT → IsSoundDatabase (with_tech (with_via v d.tech) d)
+sound_with_via d v sound lawful new room = sound_with_tech d (with_via v d.tech) sound (vias_keep_lawful d.tech v sound.tech lawful new room) (via_has_grown d.tech v)
+
+pub sound_with_site : (d : Database) (s : Site) → IsSoundDatabase d → IsSite s → find_site d.tech s.name ≡ None → length d.tech.sites < LIST_LIMIT → IsSoundDatabase (with_tech (with_site s d.tech) d)
+sound_with_site d s sound lawful new room = sound_with_tech d (with_site s d.tech) sound (sites_keep_lawful d.tech s sound.tech lawful new room) (site_has_grown d.tech s)

@@ -2,7 +2,6 @@ pub mod Changed
 pub mod Databases
 pub mod Held
 pub mod Joined
-pub mod LawfulMasters
 pub mod Limits
 pub mod Naming
 pub mod Places

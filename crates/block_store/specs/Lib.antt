@@ -4,7 +4,6 @@ pub mod Changes
 pub mod Database
 pub mod Fields
 pub mod FreeIds
-pub mod Lawful
 pub mod Lists
 pub mod Live
 pub mod Moves

@@ -3,11 +3,12 @@ ghost use Rattle.odb_base.specs.declared.codes.kind.Kind.{Kind as AnyKind};
 ghost use Rattle.block_records.specs.Header.{new_header};
 ghost use Rattle.block_store.specs.Block.{empty_block, free_in, left_in, live_in, slots_in};
 ghost use Rattle.block_store.specs.PlainTables.{AreTables};
+ghost use Rattle.block_store.specs.Sound.{IsTable};
 ghost use Rattle.block_store.specs.Store.{ChangesRoom, IsRoomBounded, room_of};
 
 use crate::entry::{BTermEntry, GroupEntry, InstEntry, NetEntry, RegionEntry, RowEntry};
 use crate::fault::RoomFault;
-use crate::tables::Tables;
+use crate::tables::{PlainTable, Tables};
 use block_records::{BlockageRec, Header, ITermRec, PinRec, PropRec, TrackRec, WireRec};
 use odb_base::Kind;
 use slot_pool::{PoolFault, SlotPool};
@@ -132,20 +133,23 @@ impl Block {
             group,
             prop,
         } = tables;
+        let (inst, iterm, net, bterm) = four_pools(inst, iterm, net, bterm, cap)?;
+        let (pin, row, track, wire) = four_pools(pin, row, track, wire, cap)?;
+        let (blockage, region, group, prop) = four_pools(blockage, region, group, prop, cap)?;
         Ok(Block {
             header,
-            inst: inst.into_pool(cap)?,
-            iterm: iterm.into_pool(cap)?,
-            net: net.into_pool(cap)?,
-            bterm: bterm.into_pool(cap)?,
-            pin: pin.into_pool(cap)?,
-            row: row.into_pool(cap)?,
-            track: track.into_pool(cap)?,
-            wire: wire.into_pool(cap)?,
-            blockage: blockage.into_pool(cap)?,
-            region: region.into_pool(cap)?,
-            group: group.into_pool(cap)?,
-            prop: prop.into_pool(cap)?,
+            inst,
+            iterm,
+            net,
+            bterm,
+            pin,
+            row,
+            track,
+            wire,
+            blockage,
+            region,
+            group,
+            prop,
             cap,
             spare: Vec::new(alloc),
         })
@@ -239,4 +243,28 @@ impl Block {
             Err(PoolFault::Memory) => Err(RoomFault::Memory),
         }
     }
+}
+
+// Four tables at a time: where memory is wanted, all that was made before has to be given back, and the fewer ways
+// there are out of a call, the shorter is its proof.
+fn four_pools<A: Drop, B: Drop, C: Drop, D: Drop>(
+    a: PlainTable<A>,
+    b: PlainTable<B>,
+    c: PlainTable<C>,
+    d: PlainTable<D>,
+    cap: u32,
+) -> Result<(SlotPool<A>, SlotPool<B>, SlotPool<C>, SlotPool<D>), AllocError>
+    requires first { IsTable cap a }
+    requires second { IsTable cap b }
+    requires third { IsTable cap c }
+    requires fourth { IsTable cap d }
+    ensures tables { IfOk result (λ pools. (pools.0.table ≡ a) × (pools.1.table ≡ b) × (pools.2.table ≡ c) × (pools.3.table ≡ d)) }
+    ensures caps { IfOk result (λ pools. (pools.0.cap ≡ cap) × (pools.1.cap ≡ cap) × (pools.2.cap ≡ cap) × (pools.3.cap ≡ cap)) }
+{
+    Ok((
+        a.into_pool(cap)?,
+        b.into_pool(cap)?,
+        c.into_pool(cap)?,
+        d.into_pool(cap)?,
+    ))
 }

@@ -27,7 +27,6 @@ pub mod fault;
 pub mod fields;
 pub mod free_ids;
 pub mod ids;
-pub mod lawful;
 pub mod laws;
 pub mod list_of;
 pub mod lists;
@@ -46,7 +45,6 @@ pub use entry::{BTermEntry, GroupEntry, InstEntry, NetEntry, RegionEntry, RowEnt
 pub use fault::RoomFault;
 pub use free_ids::FreeIds;
 pub use ids::Ids;
-pub use lawful::is_lawful_master;
 pub use laws::names_and_finding;
 pub use list_of::ListOf;
 pub use live::Live;

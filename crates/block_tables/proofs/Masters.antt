@@ -7,7 +7,7 @@ use Rattle.std.proofs.lemmas.Option.{get_or_from_slice_get, slice_get-get_or, sl
 use Rattle.std.proofs.lemmas.Slice.Eq.{bytes_eq-Decides}
 use Rattle.block_records.specs.Header.{new_header}
 use Rattle.library.specs.Masters.{master_at}
-use Rattle.library.specs.Named.{AreNamesDistinct}
+use Rattle.named_list.specs.Naming.{AreNamesDistinct}
 use Rattle.library.specs.Terminals.{HasDistinctTerminals}
 use Rattle.library.specs.declared.master.Master.{Master}
 use Rattle.block_store.specs.Block.{Block}

@@ -1,6 +1,6 @@
 ghost use Rattle.std.specs.Prelude.{◌≡◌, ◌↔◌, List, ℕ, IfOk, IfSome, IsTrue};
 ghost use Rattle.library.specs.Masters.{master_at};
-ghost use Rattle.library.specs.Named.{AreNamesDistinct};
+ghost use Rattle.named_list.specs.Naming.{AreNamesDistinct};
 ghost use Rattle.library.specs.Terminals.{HasDistinctTerminals};
 ghost use Rattle.block_store.specs.Sound.{HasLawfulMasters};
 ghost use Rattle.block_tables.specs.Indexes.{CountsNames};

@@ -14,7 +14,7 @@ use Rattle.odb_base.specs.declared.codes.usage.Usage.{Usage}
 use Rattle.tech.specs.Technology.{Technology}
 use Rattle.library.specs.Masters.{find_master, master_at}
 use Rattle.library.specs.declared.master.Master.{Master}
-use Rattle.library.proofs.Ids.{found_are_named}
+use Rattle.named_list.proofs.Ids.{found_are_named}
 use Rattle.edit_words.specs.declared.edit.Edit.{Edit}
 use Rattle.edit_words.specs.declared.edit.Edit.TheVariants as edit
 use Rattle.edit_words.specs.declared.refusal.Refusal.{Refusal}
@@ -193,7 +193,7 @@ module _ (tech : Technology) (library : List Master) (cap : ℕ) (b : Block) (so
       let new = went_on (unheld b kind.Inst name) _ steps id.rest in
       let made = new_inst_of library b name id.value in
       let room = went_on (nothing_lacks (lacks made cap b)) _ steps new.rest in
-      let found = found_are_named library master id.value (there (find_master library master) (refusal.Unknown 2) id.value id.is) in
+      let found = found_are_named (λ (m : Master). m.name) library master id.value (there (find_master library master) (refusal.Unknown 2) id.value id.is) in
       let count : term_count library id.value ≡ Some (length found.0.terminals) = ap (option_map (λ m. length m.terminals)) found.1 in
       let ids = next_ids 0 (unwrap_or (term_count library id.value) 0) b.iterm in
       let many : length ids ≡ length found.0.terminals = count_next_ids b.iterm 0 (unwrap_or (term_count library id.value) 0) ∙ ap (λ o. unwrap_or o 0) count in
@@ -217,7 +217,7 @@ module _ (tech : Technology) (library : List Master) (cap : ℕ) (b : Block) (so
       let same = went_on (same_terms (differing (inst_master library b inst) (master_at library id.value))) _ steps id.rest in
       let e = live_record b.inst inst (held (is_live b.inst inst) (refusal.NotLive kind.Inst inst) there_is.value there_is.is) in
       let old = shown_by (λ (m : Master). length m.terminals) (master_at library e.value.fields.master) (length e.value.fields.terminals) (sound.insts inst e.value e.is).fitted in
-      let new = found_are_named library master id.value (there (find_master library master) (refusal.Unknown 2) id.value id.is) in
+      let new = found_are_named (λ (m : Master). m.name) library master id.value (there (find_master library master) (refusal.Unknown 2) id.value id.is) in
       let is_old : inst_master library b inst ≡ Some old.value = ap (option_and_then (λ e. master_at library e.fields.master)) e.is ∙ old.is in
       let alike_are : first_differing old.value new.0 ≡ None =
       sym (ap (λ o. differing o (master_at library id.value)) is_old ∙ ap (differing (Some old.value)) new.1)

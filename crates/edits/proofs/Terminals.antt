@@ -6,9 +6,10 @@ use Rattle.library.specs.Masters.{master_at}
 use Rattle.library.specs.Terminals.{term_index}
 use Rattle.library.specs.declared.master.Master.{Master}
 use Rattle.library.specs.declared.mterm.MTerm.{MTerm}
-use Rattle.library.proofs.Naming.{found_is_named}
+use Rattle.named_list.proofs.Naming.{found_is_named}
 use Rattle.block_store.proofs.Joined.{none_is, shown_by, some_is}
-use Rattle.block_store.specs.Database.{IsLibrary}
+use Rattle.lawful_parts.specs.Lawful.{IsLibrary}
+use Rattle.tech.specs.Technology.{Technology}
 use Rattle.block_store.specs.Sound.{term_count}
 use Rattle.steps_net.specs.Can.{HaveSameTerms}
 use Rattle.edits.specs.Plan.{first_differing, first_lacking}
@@ -19,8 +20,8 @@ pub few_terminals : (library : List Master) (id : ℕ) (m : Master) → HasFewTe
 few_terminals library id m few found = few id (length m.terminals) (ap (option_map (λ m. length m.terminals)) (sym found))
 
 -- a lawful library has only such masters
-pub few_in_library : (library : List Master) → IsLibrary library → HasFewTerminals library
-few_in_library library lawful id n count = elim (cases_eq id 0) [
+pub few_in_library : (t : Technology) (library : List Master) → IsLibrary t library → HasFewTerminals library
+few_in_library t library lawful id n count = elim (cases_eq id 0) [
   | inl e ↦
       let none : option_map (λ (m : Master). length m.terminals) (master_at library 0) ≡ Some n = ap (term_count library) (sym e) ∙ count in
       absurd (none_is n none)

@@ -1,5 +1,5 @@
 ghost use Rattle.std.specs.Prelude.{IfOk};
-ghost use Rattle.block_store.specs.Database.{IsLibrary};
+ghost use Rattle.lawful_parts.specs.Lawful.{IsLibrary};
 ghost use Rattle.block_store.specs.Sound.{IsSound};
 ghost use Rattle.edits.specs.Plan.{CanAll, plan};
 ghost use Rattle.edits.specs.Planning.{HasFewTerminals, IsPlanned};
@@ -27,7 +27,7 @@ pub fn plan(
     edit: &Edit,
 ) -> Result<Vec<Step>, Refusal>
     requires sound { IsSound tech.now library.now block.now.cap block.now.block }
-    requires library { IsLibrary library.now }
+    requires library { IsLibrary tech.now library.now }
     ensures plan { IsPlanned (plan library.now block.now.cap block.now.block edit.now) result }
     ensures can { IfOk result (λ steps. CanAll library.now block.now.cap block.now.block steps.items) }
 {

@@ -10,7 +10,7 @@ use Rattle.odb_base.specs.Ids.{holds, without}
 use Rattle.library.specs.Terminals.{HasDistinctTerminals, term_index, term_name}
 use Rattle.library.specs.declared.master.Master.{Master}
 use Rattle.library.specs.declared.mterm.MTerm.{MTerm}
-use Rattle.library.proofs.Ids.{found_terminals_are_named, named_terminals_are_found}
+use Rattle.library.proofs.TerminalNames.{found_terminals_are_named, named_terminals_are_found}
 use Rattle.block_store.proofs.Held.{held_times, times_held, times_without, times_without_other}
 use Rattle.block_store.proofs.Joined.{Shows, none_is, shown_by, some_is}
 use Rattle.steps_net.specs.Can.{HaveSameTerms}

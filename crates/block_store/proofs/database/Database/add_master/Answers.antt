@@ -9,4 +9,5 @@ invariant_of-self-2 c =
     let same = ap (λ d. d.library) c.self.view_is in
     let new = rw (← same) at c.requires.new in
     let room = rw (← same) at c.requires.room in
-    rw (c.in_ok-id.ensures.ok) (sound_with_master _ c.args.master c.self.invariant c.requires.lawful new room)
+    let lawful = rw (← ap (λ d. d.tech) c.self.view_is) at c.requires.lawful in
+    rw (c.in_ok-id.ensures.ok) (sound_with_master _ c.args.master c.self.invariant lawful new room)

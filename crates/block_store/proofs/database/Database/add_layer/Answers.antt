@@ -1,0 +1,12 @@
+use Rattle.std.proofs.Common.{◌≡◌, ◌<◌, None, length, ap, sym, ◌∙◌, subst}
+use Rattle.tech.specs.Technology.{find_layer}
+use Rattle.tech.specs.declared.tech.TheConstants.{LIST_LIMIT}
+use Rattle.block_store.proofs.Databases.{sound_with_layer}
+use Rattle.block_store.proofs.database.Database.add_layer.Goals as goal
+
+pub invariant_of-self-2 : goal.invariant_of-self-2
+invariant_of-self-2 c =
+    let same = ap (λ d. d.tech) c.self.view_is in
+    let new = rw (← same) at c.requires.new in
+    let room = rw (← same) at c.requires.room in
+    rw (c.in_ok-id.ensures.ok) (sound_with_layer _ c.args.layer c.self.invariant c.requires.lawful new room)

@@ -1,8 +1,0 @@
-use Rattle.std.proofs.Common.{◌≡◌, drop}
-use Rattle.std.specs.List.{list_any}
-use Rattle.std.specs.Str.{bytes_eq}
-use Rattle.block_store.proofs.lawful.has_name.Given as goal
-
-abbrev pub invariant-loop-terminal : goal.invariant-loop-terminal
-invariant-loop-terminal l =
-    list_any (λ other. bytes_eq l.name other.name) (drop l.terminal-index l.terminals) ≡ list_any (λ other. bytes_eq l.name other.name) l.terminals
