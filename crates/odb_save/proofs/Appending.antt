@@ -8,6 +8,10 @@ use Rattle.odb_save.specs.Parts.{list_bytes}
 pub four_appended : (a b c d e w x y z : List ℕ) → b ≡ a ++ w → c ≡ b ++ x → d ≡ c ++ y → e ≡ d ++ z → e ≡ a ++ (w ++ x ++ y ++ z)
 four_appended a b c d e w x y z first second third fourth = rw (fourth, third, second, first) (simp append_assoc)
 
+-- a part was appended, and one more field behind it
+pub field_appended : (a b c part z : List ℕ) → b ≡ a ++ part → c ≡ b ++ z → c ≡ a ++ (part ++ z)
+field_appended a b c part z before last = last ∙ ap (λ l. l ++ z) before ∙ append_assoc a part z
+
 -- a part was appended, and the rest is still to be written
 pub one_appended : (was now part rest whole all : List ℕ) → now ≡ was ++ part → whole ≡ part ++ rest → was ++ whole ≡ all → now ++ rest ≡ all
 one_appended was now part rest whole all appended parts before =

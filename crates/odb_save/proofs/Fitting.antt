@@ -1,10 +1,9 @@
 -- The counts of a sound database fit 32 bits.
-use Rattle.std.proofs.Common.{◌≡◌, ◌+◌, ◌*◌, ◌-◌, ◌/◌, ◌^◌, ◌<◌, ◌≤◌, Bool, true, false, eqb, List, [], ℕ, Option, None, Some, is_some, length, refl, sym, ap, ◌∙◌, arith, inl, inr}
+use Rattle.std.proofs.Common.{◌≡◌, ◌+◌, ◌*◌, ◌-◌, ◌/◌, ◌≤◌, Bool, true, false, eqb, List, [], ℕ, Option, None, Some, is_some, length, refl, sym, ap, ◌∙◌, arith, inl, inr}
 use Rattle.std.specs.Option.{option_map, option_map_or}
 use Rattle.std.proofs.lemmas.Bool.{cases_Bool, eqb-true}
 use Rattle.slot_pool.specs.Table.{IsGood, Table, is_vacant, once_if, record_at, times}
 use Rattle.slot_pool.proofs.Counts.{live_within, vacant_within}
-use Rattle.odb_base.specs.Ids.{holds}
 use Rattle.odb_base.specs.declared.codes.kind.Kind.{Kind}
 use Rattle.odb_base.specs.declared.codes.kind.Kind.TheVariants as kind
 use Rattle.link_list.proofs.Reading.{AreUpTo, length-distinct}
@@ -14,16 +13,17 @@ use Rattle.block_records.specs.declared.net.NetRec.{NetRec}
 use Rattle.tech.specs.Technology.{Technology}
 use Rattle.library.specs.Masters.{master_at}
 use Rattle.library.specs.declared.master.Master.{Master}
-use Rattle.library.specs.declared.mterm.MTerm.{MTerm}
 use Rattle.block_store.specs.Block.{Block, empty_table, free_in}
-use Rattle.block_store.specs.Database.{Database, IsLibrary, IsMTerm, IsMaster, IsSoundDatabase}
-use Rattle.block_store.specs.Lists.{bterm_number, iterm_number, list_in}
+use Rattle.block_store.specs.Database.{Database, IsSoundDatabase}
+use Rattle.lawful_parts.specs.Lawful.{IsLibrary, IsMaster, IsTechVia}
+use Rattle.tech.specs.declared.via.TechVia.{TechVia}
+use Rattle.block_store.specs.Lists.{list_in}
 use Rattle.block_store.specs.Sound.{IsSound, IsTable, bterm_net, iterm_net, net_terms, term_count}
 use Rattle.block_store.proofs.Held.{distinct_times, times_held}
-use Rattle.block_store.proofs.Joined.{from_one, none_is, number_is, shown_by, some_is, terms_distinct}
+use Rattle.block_store.proofs.Joined.{from_one, none_is, number_is, shown_by, terms_distinct}
 use Rattle.block_store.proofs.Shown.{live_by}
 use Rattle.odb_save.specs.Entries.{bterm_entry, inst_entry, net_entry}
-use Rattle.odb_save.specs.Fits.{FitsBTerm, FitsInst, FitsNet, IsShort}
+use Rattle.odb_save.specs.Fits.{FitsBTerm, FitsInst, FitsMaster, FitsNet, IsShort}
 
 -- an empty list is short
 empty_short : {A : Type 0} (xs : List A) → xs ≡ [] → IsShort xs
@@ -74,23 +74,23 @@ free_short d k sound = let few = free_few d k sound in omega (arith, few, sound.
 
 -- ---- instances
 
-master_lawful : (library : List Master) (id : ℕ) (m : Master) → IsLibrary library → master_at library id ≡ Some m → IsMaster m
-master_lawful library id m lawful found = elim (cases_Bool (eqb id 0)) [
+master_lawful : (t : Technology) (library : List Master) (id : ℕ) (m : Master) → IsLibrary t library → master_at library id ≡ Some m → IsMaster t m
+master_lawful t library id m lawful found = elim (cases_Bool (eqb id 0)) [
   | inl none ↦ absurd (none_is m (rw none at found))
   | inr some ↦ lawful.masters (id - 1) m (rw some at found)
 ]
 
-pub few_terminals : (library : List Master) (id n : ℕ) → IsLibrary library → term_count library id ≡ Some n → n ≤ 65535
-few_terminals library id n lawful counted =
+pub few_terminals : (t : Technology) (library : List Master) (id n : ℕ) → IsLibrary t library → term_count library id ≡ Some n → n ≤ 65535
+few_terminals t library id n lawful counted =
     let shown = shown_by (λ m. length m.terminals) (master_at library id) n counted in
-    let few = (master_lawful library id shown.value lawful shown.is).few in
+    let few = (master_lawful t library id shown.value lawful shown.is).few in
     omega (arith, few, shown.shows)
 
 pub inst_fits : (d : Database) (id : ℕ) (r : InstRec) → IsSoundDatabase d → Some r ≡ option_map (λ e. e.fields) (record_at d.block.inst id) → FitsInst (inst_entry id r d.block)
 inst_fits d id r sound found =
     let shown = shown_by (λ e. e.fields) (record_at d.block.inst id) r (sym found) in
     let is = sound.block.insts id shown.value shown.is in
-    let few = few_terminals d.library shown.value.fields.master (length shown.value.fields.terminals) sound.library is.fitted in
+    let few = few_terminals d.tech d.library shown.value.fields.master (length shown.value.fields.terminals) sound.library is.fitted in
     let terminals : IsShort shown.value.fields.terminals = omega (arith, few) in
     let props : list_in (λ e. e.props) (record_at d.block.inst id) ≡ [] = ap (list_in (λ e. e.props)) shown.is ∙ is.props in
     record {
@@ -157,7 +157,16 @@ bterm_fits d id r sound found =
     let pins : list_in (λ e. e.pins) (record_at d.block.bterm id) ≡ [] = ap (list_in (λ e. e.pins)) shown.is ∙ is.pins in
     record { pins = empty_short _ pins; kept = rw shown.shows at (empty_short _ is.kept) }
 
--- ---- terminals of masters
+-- ---- masters and vias
 
-pub mterm_fits : (t : MTerm) → IsMTerm t → IsShort t.shapes
-mterm_fits t is = empty_short t.shapes is.shapes
+pub master_fits : (t : Technology) (m : Master) → IsMaster t m → FitsMaster m
+master_fits t m is = record {
+  class = is.class_short;
+  foreign = is.foreign_short;
+  terminals = omega (arith, is.few);
+  shapes = λ place x at. let few = (is.terminals place x at).shapes.few in omega (arith, few);
+  obstructions = omega (arith, is.obstructions.few);
+}
+
+pub via_fits : (t : Technology) (v : TechVia) → IsTechVia t v → IsShort v.shapes
+via_fits t v is = omega (arith, is.shapes.few)

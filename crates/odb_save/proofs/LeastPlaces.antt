@@ -49,8 +49,8 @@ module _ (library : List Master) (cap : ℕ) (b : Block) where
 
 pub one_place : (cap : ℕ) (s : Saved) (j k : Option Kind) (i id : ℕ) → IsLeastUnsound cap s j i → IsLeastUnsound cap s k id → (j ≡ k) × (i ≡ id)
 one_place cap s None None i id first other = (refl, let p = first.0 in let q = other.0 in omega (arith, p, q))
-one_place cap s None (Some k) i id first other = absurd (first.1 (record { library = other.0; header = other.1.header }))
-one_place cap s (Some j) None i id first other = absurd (other.1 (record { library = first.0; header = first.1.header }))
+one_place cap s None (Some k) i id first other = absurd (first.1 (record { design = other.0; header = other.1.header }))
+one_place cap s (Some j) None i id first other = absurd (other.1 (record { design = first.0; header = first.1.header }))
 one_place cap s (Some j) (Some k) i id first other =
     let one = one_in_kinds s.library cap s.tables j k i id first.1 other.1 in
     (ap (λ (x : Kind). Some x) one.0, one.1)

@@ -1,11 +1,11 @@
 pub mod Appending
-pub mod Entering
+pub mod Designs
 pub mod Fitting
 pub mod LeastPlaces
 pub mod Loads
-pub mod MasterTests
 pub mod OtherRecords
 pub mod Readable
 pub mod SoundFields
+pub mod TechRecords
 pub mod Whole
 pub mod Written

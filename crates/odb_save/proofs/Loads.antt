@@ -2,7 +2,7 @@
 use Rattle.std.proofs.Common.{◌≡◌, List, ℕ, Some, None, Result, Ok, Err, refl, sym, ap, subst, ◌∙◌}
 use Rattle.std.specs.Prelude.{IfErr, IfOk, OnOk}
 use Rattle.odb_fields.specs.Bytes.{AreBytes}
-use Rattle.block_store.specs.Database.{Database, IsLibrary, IsSoundDatabase}
+use Rattle.block_store.specs.Database.{Database, IsSoundDatabase}
 use Rattle.block_tables.specs.Causes.{IsRefusal}
 use Rattle.block_tables.specs.declared.fault.TablesFault.{TablesFault}
 use Rattle.block_tables.specs.declared.fault.TablesFault.TheVariants as tables
@@ -13,8 +13,9 @@ use Rattle.saved_reader.specs.Reading.{Fails}
 use Rattle.saved_reader.specs.Saved.{saved_in}
 use Rattle.odb_save.specs.declared.load_fault.LoadFault.{LoadFault}
 use Rattle.odb_save.specs.declared.load_fault.LoadFault.TheVariants as load
+use Rattle.odb_save.specs.Design.{IsDesign}
 use Rattle.odb_save.specs.LoadFaults.{of_read, of_tables}
-use Rattle.odb_save.specs.Loading.{HasLoadCause, HasOneAnswer, IsLibraryFault, IsLoadAnswer, IsLoaded, IsLoadedAs, IsPartFault, IsUnsoundAt, Loads}
+use Rattle.odb_save.specs.Loading.{HasLoadCause, HasOneAnswer, IsDesignFault, IsLoadAnswer, IsLoaded, IsLoadedAs, IsPartFault, IsUnsoundAt, Loads}
 use Rattle.odb_save.specs.Save.{content_bytes, save_bytes}
 use Rattle.odb_save.specs.Spelled.{database_of, spelled}
 use Rattle.odb_save.proofs.LeastPlaces.{one_place}
@@ -23,16 +24,16 @@ use Rattle.odb_save.proofs.Whole.{bytes_are_read, read_has_bytes}
 
 -- ---- faults
 
--- where the library isn't lawful, the header is the least place
-pub part_of_library : (cap : ℕ) (s : Saved) (fault : LoadFault) → IsLibraryFault s.library fault → IsPartFault cap s fault
-part_of_library cap s load.Memory h = tt
-part_of_library cap s fault h =
+-- where the technology and the library aren't lawful, the header is the least place
+pub part_of_design : (cap : ℕ) (s : Saved) (fault : LoadFault) → IsDesignFault s.tech s.library fault → IsPartFault cap s fault
+part_of_design cap s load.Memory h = tt
+part_of_design cap s fault h =
     let P : LoadFault → Type 0 = IsPartFault cap s in
-    let none : P (load.Unsound None 0) = record { unsound = λ d. h.1 d.library; least = (refl, λ x. h.1 x.library) } in
+    let none : P (load.Unsound None 0) = record { unsound = λ d. h.1 (record { tech = d.tech; library = d.library }); least = (refl, λ x. h.1 x.design) } in
     subst P (sym h.0) none
 
 -- a fault of the tables is one of the database
-pub part_of_tables : (cap : ℕ) (s : Saved) (fault : TablesFault) → IsLibrary s.library → IsRefusal s.tech s.library cap s.tables fault → IsPartFault cap s (of_tables fault)
+pub part_of_tables : (cap : ℕ) (s : Saved) (fault : TablesFault) → IsDesign s.tech s.library → IsRefusal s.tech s.library cap s.tables fault → IsPartFault cap s (of_tables fault)
 part_of_tables cap s (tables.Unsound None id) lawful h = record { unsound = λ d. h.0 d.block; least = (h.1.zero, λ x. h.1.header x.header) }
 part_of_tables cap s (tables.Unsound (Some k) id) lawful h = record { unsound = λ d. h.0 d.block; least = (lawful, h.1) }
 part_of_tables cap s tables.Memory lawful h = tt

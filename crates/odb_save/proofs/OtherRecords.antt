@@ -12,7 +12,6 @@ use Rattle.odb_base.specs.declared.codes.track_axis.TrackAxis.TheVariants as tra
 use Rattle.odb_base.specs.declared.codes.wire_status.WireStatus.TheVariants as wire_status
 use Rattle.odb_fields.specs.Fields.{i32_bytes, u8_bytes, u32_bytes}
 use Rattle.block_records.specs.declared.blockage.BlockageRec.{BlockageRec}
-use Rattle.block_records.specs.declared.pin.LayerRect.{LayerRect}
 use Rattle.block_records.specs.declared.pin.PinRec.{PinRec}
 use Rattle.block_records.specs.declared.prop.PropRec.{PropRec}
 use Rattle.block_records.specs.declared.track.TrackRec.{TrackRec}
@@ -20,18 +19,18 @@ use Rattle.block_records.specs.declared.wire.WireRec.{WireRec}
 use Rattle.block_store.specs.declared.entry.GroupEntry.{GroupEntry}
 use Rattle.block_store.specs.declared.entry.RegionEntry.{RegionEntry}
 use Rattle.block_store.specs.declared.entry.RowEntry.{RowEntry}
-use Rattle.block_store.specs.Lawful.{is_coordinate}
+use Rattle.lawful_parts.specs.Tests.{is_coordinate}
 use Rattle.saved_reader.specs.Fields.{distance_at, id_at, is_from, number_at}
 use Rattle.saved_reader.specs.Grouping.{group_at, group_of, prop_at, prop_of, region_at, region_of}
-use Rattle.saved_reader.specs.Parts.{filled_list_at, list_at, rect_at}
-use Rattle.saved_reader.specs.Physical.{Sites, blockage_at, blockage_of, layer_rect_at, layer_rect_of, may_step, most_sites, pin_at, pin_of, row_at, row_of, sites_at, track_at, track_of, wire_at, wire_of}
+use Rattle.saved_reader.specs.Parts.{filled_list_at, list_at, rect_at, shape_at}
+use Rattle.saved_reader.specs.Physical.{Sites, blockage_at, blockage_of, may_step, most_sites, pin_at, pin_of, row_at, row_of, sites_at, track_at, track_of, wire_at, wire_of}
 use Rattle.saved_reader.proofs.Codec.{IsCodec, and_codec, record_codec, same_codec, then_codec}
 use Rattle.saved_reader.proofs.Compound.{IsPlacementFields, IsRectFields, orients_set, rect_codec}
 use Rattle.saved_reader.proofs.Counted.{IsFilledList, IsList, filled_list_codec, list_codec}
 use Rattle.saved_reader.proofs.Single.{IsDistance, IsId, IsNameText, IsNumber, IsSet, coded_codec, distance_codec, flag_codec, id_codec, name_codec, number_codec}
-use Rattle.odb_save.specs.Objects.{blockage_bytes, group_bytes, layer_rect_bytes, pin_bytes, prop_bytes, region_bytes, row_bytes, track_bytes, wire_bytes}
-use Rattle.odb_save.specs.Parts.{ids_bytes, list_bytes, rect_bytes}
-use Rattle.odb_save.proofs.Readable.{IsNoText, ids_codec, no_ids_codec, no_text_codec, saved_place_codec}
+use Rattle.odb_save.specs.Objects.{blockage_bytes, group_bytes, pin_bytes, prop_bytes, region_bytes, row_bytes, track_bytes, wire_bytes}
+use Rattle.odb_save.specs.Parts.{ids_bytes, list_bytes, rect_bytes, shape_bytes}
+use Rattle.odb_save.proofs.Readable.{IsNoText, IsShapeFields, ids_codec, no_ids_codec, no_text_codec, saved_place_codec, shape_codec}
 
 -- ---- sets
 
@@ -65,16 +64,9 @@ rects_codec : (most : ℕ) → IsCodec (filled_list_at most rect_at) (list_bytes
 unfolding list_bytes rect_bytes
 rects_codec most = filled_list_codec rect_at rect_bytes IsRectFields rect_codec most
 
-abbrev pub IsLayerRectFields : LayerRect → Type 0
-IsLayerRectFields b = IsId b.layer × IsRectFields b.rect
-
-layer_rect_codec : IsCodec layer_rect_at layer_rect_bytes IsLayerRectFields
-unfolding layer_rect_at layer_rect_bytes rect_bytes
-layer_rect_codec = record_codec layer_rect_of (λ b. (b.layer, b.rect)) _ _ _ (λ b. refl) (λ t. refl) (and_codec _ _ _ _ _ _ id_codec rect_codec)
-
-boxes_codec : IsCodec (list_at 1000000 layer_rect_at) (list_bytes layer_rect_bytes) (IsList 1000000 IsLayerRectFields)
+boxes_codec : IsCodec (list_at 1000000 shape_at) (list_bytes shape_bytes) (IsList 1000000 IsShapeFields)
 unfolding list_bytes
-boxes_codec = list_codec layer_rect_at layer_rect_bytes IsLayerRectFields layer_rect_codec 1000000
+boxes_codec = list_codec shape_at shape_bytes IsShapeFields shape_codec 1000000
 
 layers_codec : IsCodec (list_at 1000000 id_at) ids_bytes (IsList 1000000 IsId)
 unfolding list_bytes
@@ -83,7 +75,7 @@ layers_codec = list_codec id_at u32_bytes IsId id_codec 1000000
 -- ---- pins
 
 abbrev pub IsPinFields : PinRec → Type 0
-IsPinFields r = ((IsId r.bterm × IsPlacementFields r.place) × IsList 1000000 IsLayerRectFields r.boxes) × IsNoText r.kept
+IsPinFields r = ((IsId r.bterm × IsPlacementFields r.place) × IsList 1000000 IsShapeFields r.boxes) × IsNoText r.kept
 
 pub pin_codec : IsCodec pin_at pin_bytes IsPinFields
 unfolding pin_at pin_bytes
@@ -174,14 +166,14 @@ blockage_codec =
 
 abbrev pub IsRegionFields : RegionEntry → Type 0
 IsRegionFields e =
-    ((((IsNameText e.fields.name × Unit {0}) × IsFilledList 4294967295 IsRectFields e.fields.rects) × (e.groups ≡ [])) × (e.props ≡ []))
+    ((((IsNameText e.fields.name × Unit {0}) × IsFilledList 1000000 IsRectFields e.fields.rects) × (e.groups ≡ [])) × (e.props ≡ []))
     × IsNoText e.fields.kept
 
 pub region_codec : IsCodec region_at region_bytes IsRegionFields
 unfolding region_at region_bytes
 region_codec =
     let sorted = and_codec _ _ _ _ _ _ name_codec (coded_codec region_type_code region_types region_types_set) in
-    let spread = and_codec _ _ _ _ _ _ sorted (rects_codec 4294967295) in
+    let spread = and_codec _ _ _ _ _ _ sorted (rects_codec 1000000) in
     let grouped = and_codec _ _ _ _ _ _ spread no_ids_codec in
     let propped = and_codec _ _ _ _ _ _ grouped no_ids_codec in
     let all = and_codec _ _ _ _ _ _ propped no_text_codec in

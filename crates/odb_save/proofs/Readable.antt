@@ -9,28 +9,27 @@ use Rattle.odb_base.specs.declared.codes.direction.Direction.TheVariants as dire
 use Rattle.odb_base.specs.declared.codes.usage.Usage.TheVariants as usage
 use Rattle.odb_base.specs.declared.codes.kind.Kind.{Kind}
 use Rattle.odb_base.specs.declared.codes.kind.Kind.TheVariants as kind
+use Rattle.odb_base.specs.declared.geometry.Shape.{Shape}
 use Rattle.odb_fields.specs.Fields.{text_bytes, u8_bytes, u32_bytes}
 use Rattle.block_records.specs.declared.iterm.ITermRec.{ITermRec}
 use Rattle.block_store.specs.declared.entry.BTermEntry.{BTermEntry}
 use Rattle.block_store.specs.declared.entry.InstEntry.{InstEntry}
 use Rattle.block_store.specs.declared.entry.NetEntry.{NetEntry}
-use Rattle.block_store.specs.Lawful.{is_coordinate}
+use Rattle.lawful_parts.specs.Tests.{is_coordinate}
 use Rattle.library.specs.declared.library.TheConstants.{MASTER_LIMIT}
 use Rattle.library.specs.declared.master.Master.{Master}
 use Rattle.library.specs.declared.mterm.MTerm.{MTerm}
-use Rattle.library.specs.declared.shape.Shape.{Shape}
-use Rattle.tech.specs.Technology.{Technology}
 use Rattle.saved_reader.specs.Fields.{any_text_at, coded_at, id_at, no_text_at}
-use Rattle.saved_reader.specs.Library.{extent_at, library_at, master_at, master_of, mterm_at, mterm_of, shape_at, shape_of, tech_at, technology_of}
+use Rattle.saved_reader.specs.Library.{extent_at, library_at, master_at, master_of, mterm_at, mterm_of}
 use Rattle.saved_reader.specs.Objects.{block_direction_at, bterm_at, bterm_of, inst_at, inst_of, is_of_block, iterm_at, iterm_of, net_at, net_of}
-use Rattle.saved_reader.specs.Parts.{fitting, ids_at, list_at, no_list_at, place_at, term_at, term_number}
+use Rattle.saved_reader.specs.Parts.{fitting, ids_at, list_at, no_list_at, place_at, shape_at, shape_of, term_at, term_number}
 use Rattle.saved_reader.proofs.Codec.{IsCodec, and_codec, made_codec, record_codec, same_codec}
 use Rattle.saved_reader.proofs.Compound.{IsPlacementFields, IsRectFields, place_codec, rect_codec}
-use Rattle.saved_reader.proofs.Counted.{IsList, list_codec, no_list_codec, none_codec}
+use Rattle.saved_reader.proofs.Counted.{IsList, list_codec, no_list_codec}
 use Rattle.saved_reader.proofs.Single.{IsDistance, IsId, IsNameText, IsNumber, IsSet, IsSmall, IsText, coded_codec, distance_codec, flag_codec, id_codec, name_codec, number_codec, small_codec, such_codec, text_codec}
-use Rattle.odb_save.specs.Library.{extent_bytes, library_bytes, master_bytes, mterm_bytes, shape_bytes, tech_bytes}
+use Rattle.odb_save.specs.Library.{extent_bytes, library_bytes, master_bytes, mterm_bytes}
 use Rattle.odb_save.specs.Objects.{bterm_bytes, inst_bytes, iterm_bytes, net_bytes}
-use Rattle.odb_save.specs.Parts.{ids_bytes, list_bytes, place_bytes, rect_bytes, term_bytes, term_kind}
+use Rattle.odb_save.specs.Parts.{ids_bytes, list_bytes, place_bytes, rect_bytes, shape_bytes, term_bytes, term_kind}
 
 -- a text of any length that a count of 32 bits tells
 abbrev pub IsAnyText : List ℕ → Type 0
@@ -64,16 +63,7 @@ direction_codec = coded_codec direction_code directions directions_set
 usage_codec : IsCodec (coded_at usage_code usages) (λ u. u8_bytes (usage_code u)) (λ u. Unit {0})
 usage_codec = coded_codec usage_code usages usages_set
 
--- ---- the technology and the library
-
-abbrev pub IsTechFields : Technology → Type 0
-IsTechFields t = ((IsNumber 0 100000 t.units × Unit {0}) × Unit {0}) × Unit {0}
-
-pub tech_codec : IsCodec tech_at tech_bytes IsTechFields
-unfolding tech_at tech_bytes
-tech_codec =
-    record_codec technology_of (λ t. (((t.units, tt), tt), tt)) _ _ _ (λ t. refl) (λ t. refl)
-    (and_codec _ _ _ _ _ _ (and_codec _ _ _ _ _ _ (and_codec _ _ _ _ _ _ (number_codec 0 100000) none_codec) none_codec) none_codec)
+-- ---- the library
 
 abbrev pub IsShapeFields : Shape → Type 0
 IsShapeFields s = IsId s.layer.0 × IsRectFields s.rect

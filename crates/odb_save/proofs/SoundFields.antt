@@ -8,7 +8,7 @@ use Rattle.std.proofs.lemmas.Bool.{cases_Bool, cases_eq, eqb-true, le-leb, or_ri
 use Rattle.std.proofs.lemmas.Bool.Decides.{nat_tests}
 use Rattle.std.proofs.lemmas.Int.{fits_signed_from_abs, ints}
 use Rattle.std.proofs.lemmas.Option.{get_or_from_slice_get, slice_get_within}
-use Rattle.odb_base.specs.Geometry.{IsCoordinate}
+use Rattle.odb_base.specs.Geometry.{IsCoordinate, IsRect}
 use Rattle.odb_base.specs.Ids.{holds}
 use Rattle.odb_base.specs.Name.{IsName, name_fault}
 use Rattle.odb_base.specs.declared.codes.direction.Direction.{Direction}
@@ -19,6 +19,8 @@ use Rattle.odb_base.specs.declared.codes.orient.Orient.{Orient}
 use Rattle.odb_base.specs.declared.codes.place_status.PlaceStatus.{PlaceStatus}
 use Rattle.odb_base.specs.declared.codes.place_status.PlaceStatus.TheVariants as status
 use Rattle.odb_base.specs.declared.geometry.Placement.{Placement}
+use Rattle.odb_base.specs.declared.geometry.Rect.{Rect}
+use Rattle.odb_base.specs.declared.geometry.Shape.{Shape}
 use Rattle.odb_base.proofs.Names.{name_is_short}
 use Rattle.odb_base.proofs.Splits.{eqb-refl}
 use Rattle.block_records.specs.Header.{new_header}
@@ -29,8 +31,15 @@ use Rattle.block_store.specs.declared.block.TheConstants.{SLOT_LIMIT}
 use Rattle.block_store.specs.declared.entry.BTermEntry.{BTermEntry}
 use Rattle.block_store.specs.declared.entry.InstEntry.{InstEntry}
 use Rattle.block_store.specs.declared.entry.NetEntry.{NetEntry}
-use Rattle.block_store.specs.Database.{Database, IsLibrary, IsMTerm, IsMaster, IsSoundDatabase}
-use Rattle.block_store.specs.Lawful.{is_coordinate}
+use Rattle.block_store.specs.Database.{Database, IsSoundDatabase}
+use Rattle.lawful_parts.specs.Lawful.{AreShapes, IsLayer, IsLibrary, IsMTerm, IsMaster, IsShape, IsSite, IsTechVia, IsTechnology}
+use Rattle.lawful_parts.specs.Tests.{int_le, is_coordinate}
+use Rattle.lawful_parts.proofs.TestLemmas.{int_le_test}
+use Rattle.tech.specs.Technology.{Technology}
+use Rattle.tech.specs.declared.layer.Layer.{Layer}
+use Rattle.tech.specs.declared.site.Site.{Site}
+use Rattle.tech.specs.declared.tech.TheConstants.{LIST_LIMIT}
+use Rattle.tech.specs.declared.via.TechVia.{TechVia}
 use Rattle.block_store.specs.Lists.{bterm_number, iterm_number, list_in}
 use Rattle.block_store.specs.Sound.{AreEach, IsBTermDirection, IsPlacement, IsTable, inst_terms, iterm_place, net_terms, term_count, unplaced}
 use Rattle.block_store.proofs.Held.{times_held}
@@ -41,18 +50,18 @@ use Rattle.library.specs.Masters.{master_at}
 use Rattle.library.specs.declared.library.TheConstants.{MASTER_LIMIT}
 use Rattle.library.specs.declared.master.Master.{Master}
 use Rattle.library.specs.declared.mterm.MTerm.{MTerm}
-use Rattle.library.specs.declared.shape.Shape.{Shape}
 use Rattle.slot_pool.specs.Table.{Table, is_vacant, record_at}
 use Rattle.slot_pool.proofs.Counts.{live_within, vacant_within}
 use Rattle.saved_reader.specs.Fields as field
 use Rattle.saved_reader.specs.Parts.{is_built, may_have}
-use Rattle.saved_reader.proofs.Compound.{IsPlacementFields, IsTableOf}
+use Rattle.saved_reader.proofs.Compound.{IsPlacementFields, IsRectFields, IsTableOf}
 use Rattle.saved_reader.proofs.Counted.{IsList, IsOption}
 use Rattle.saved_reader.proofs.Single.{IsId, IsNameText, IsNumber, IsSmall}
 use Rattle.odb_save.specs.Spelled.{spelled}
 use Rattle.odb_save.proofs.Fitting.{few_terminals, good_few, once_true, terms_few, terms_up_to}
 use Rattle.odb_save.proofs.OtherRecords.{IsBlockageFields, IsGroupFields, IsPinFields, IsPropFields, IsRegionFields, IsRowFields, IsTrackFields, IsWireFields}
-use Rattle.odb_save.proofs.Readable.{IsAnyText, IsBTermFields, IsBlockDirection, IsExtent, IsITermFields, IsInstFields, IsMTermFields, IsMasterFields, IsNetFields, IsNoText, IsShapeFields, IsTechFields, IsTerm}
+use Rattle.odb_save.proofs.Readable.{IsAnyText, IsBTermFields, IsBlockDirection, IsExtent, IsITermFields, IsInstFields, IsMTermFields, IsMasterFields, IsNetFields, IsNoText, IsShapeFields, IsTerm}
+use Rattle.odb_save.proofs.TechRecords.{IsLayerFields, IsSiteFields, IsTechFields, IsViaFields}
 use Rattle.odb_save.proofs.Whole.{IsBuiltFields, IsHeaderFields, IsOtherFields, IsSavedFields}
 
 -- ---- lists
@@ -129,29 +138,71 @@ placement_fields p is = elim (is_unplaced p.status) [
   | inr placed ↦ placement_by p.status p.x p.y p.orientation is.x is.y placed
 ]
 
--- ---- masters
+-- ---- rectangles on layers
 
-zero_list : (most : ℕ) → most < 2 ^ 32 → IsList most IsShapeFields []
-zero_list most small = (number 0 most 0 (omega arith) (omega arith) small, tt)
+-- a coordinate that isn't below another one
+from : (least z : ℤ) → IsCoordinate z → int_le least z ≡ true → (field.is_from least z ≡ true) × FitsSigned w32 z
+from (pos least) (pos n) h low = let c = coordinate_is (pos n) h in (both_true (leb least n) (is_coordinate (pos n)) low c.0, c.1)
+from (pos least) (negsuc n) h low = absurd cc
+from (negsuc least) (pos n) h low = coordinate_is (pos n) h
+from (negsuc least) (negsuc n) h low = let c = coordinate_is (negsuc n) h in (both_true (leb n least) (is_coordinate (negsuc n)) low c.0, c.1)
 
-mterm_fields : (t : MTerm) → IsMTerm t → IsMTermFields t
-mterm_fields t is =
-    let P : List Shape → Type 0 = IsList 1000000 IsShapeFields in
-    (((name_text t.name is.name, tt), tt), subst P (sym is.shapes) (zero_list 1000000 (omega arith)))
+rect_fields : (r : Rect) → IsRect r → IsRectFields r
+rect_fields r is =
+    let wide = (int_le_test r.xl r.xh).1 is.wide in
+    let high = (int_le_test r.yl r.yh).1 is.high in
+    (((coordinate_is r.xl is.xl, coordinate_is r.yl is.yl), from r.xl r.xh is.xh wide), from r.yl r.yh is.yh high)
 
-master_fields : (m : Master) → IsMaster m → IsMasterFields m
-master_fields m is =
-    let P : List Shape → Type 0 = IsList 1000000 IsShapeFields in
-    let small : IsSmall 7 m.symmetry = (between 0 7 m.symmetry (omega arith) (omega (arith, is.symmetry)), omega (arith, is.symmetry)) in
-    let extent : IsExtent m = (((coordinate_is m.origin_x is.origin_x, coordinate_is m.origin_y is.origin_y), coordinate_is m.width is.width), coordinate_is m.height is.height) in
-    let terminals : IsList 65535 IsMTermFields m.terminals = (number 0 65535 (length m.terminals) (omega arith) is.few (omega arith), each_by IsMTermFields m.terminals (λ i t at. mterm_fields t (is.terminals i t at))) in (
-      ((((((name_text m.name is.name, any_text m.class is.class_short), extent), small), omega (arith, is.site)), any_text m.foreign is.foreign_short), terminals),
-      subst P (sym is.obstructions) (zero_list 1000000 (omega arith)),
-    )
+module _ (t : Technology) (lawful : IsTechnology t) where
+  shape_fields : (s : Shape) → IsShape t s → IsShapeFields s
+  shape_fields s is = (omega (arith, is.layer.1, lawful.few.layers), rect_fields s.rect is.rect)
 
-library_fields : (library : List Master) → IsLibrary library → IsList MASTER_LIMIT IsMasterFields library
-library_fields library is =
-    (number 0 MASTER_LIMIT (length library) (omega arith) is.few (omega arith), each_by IsMasterFields library (λ i m at. master_fields m (is.masters i m at)))
+  shapes_fields : (shapes : List Shape) → AreShapes t shapes → IsList 1000000 IsShapeFields shapes
+  shapes_fields shapes are =
+      (number 0 1000000 (length shapes) (omega arith) are.few (omega arith), each_by IsShapeFields shapes (λ i s at. shape_fields s (are.each i s at)))
+
+  -- ---- the technology
+
+  layer_fields : (l : Layer) → IsLayer l → IsLayerFields l
+  layer_fields l is =
+      ((((((name_text l.name is.name, tt), tt), coordinate_is l.pitch_x is.pitch_x), coordinate_is l.pitch_y is.pitch_y), coordinate_is l.width is.width), coordinate_is l.spacing is.spacing)
+
+  via_fields : (v : TechVia) → IsTechVia t v → IsViaFields v
+  via_fields v is = (((ap is_none is.name.no_orient, name_text v.name is.name.lawful), tt), shapes_fields v.shapes is.shapes)
+
+  site_fields : (s : Site) → IsSite s → IsSiteFields s
+  site_fields s is =
+      ((((name_text s.name is.name, tt), (between 0 7 s.symmetry.0 (omega arith) (omega (arith, is.symmetry)), omega (arith, is.symmetry))), coordinate_is s.width is.width), coordinate_is s.height is.height)
+
+  tech_fields : IsTechFields t
+  tech_fields = (
+    (
+      (
+        number 0 100000 t.units (omega arith) lawful.units (omega arith),
+        (number 0 LIST_LIMIT (length t.layers) (omega arith) lawful.few.layers (omega arith), each_by IsLayerFields t.layers (λ i l at. layer_fields l (lawful.layers i l at))),
+      ),
+      (number 0 LIST_LIMIT (length t.vias) (omega arith) lawful.few.vias (omega arith), each_by IsViaFields t.vias (λ i v at. via_fields v (lawful.vias i v at))),
+    ),
+    (number 0 LIST_LIMIT (length t.sites) (omega arith) lawful.few.sites (omega arith), each_by IsSiteFields t.sites (λ i s at. site_fields s (lawful.sites i s at))),
+  )
+
+  -- ---- masters
+
+  mterm_fields : (m : MTerm) → IsMTerm t m → IsMTermFields m
+  mterm_fields m is = (((name_text m.name is.name, tt), tt), shapes_fields m.shapes is.shapes)
+
+  master_fields : (m : Master) → IsMaster t m → IsMasterFields m
+  master_fields m is =
+      let small : IsSmall 7 m.symmetry = (between 0 7 m.symmetry (omega arith) (omega (arith, is.symmetry)), omega (arith, is.symmetry)) in
+      let extent : IsExtent m = (((coordinate_is m.origin_x is.origin_x, coordinate_is m.origin_y is.origin_y), coordinate_is m.width is.width), coordinate_is m.height is.height) in
+      let terminals : IsList 65535 IsMTermFields m.terminals = (number 0 65535 (length m.terminals) (omega arith) is.few (omega arith), each_by IsMTermFields m.terminals (λ i x at. mterm_fields x (is.terminals i x at))) in (
+        ((((((name_text m.name is.name, any_text m.class is.class_short), extent), small), omega (arith, is.site, lawful.few.sites)), any_text m.foreign is.foreign_short), terminals),
+        shapes_fields m.obstructions is.obstructions,
+      )
+
+  library_fields : (library : List Master) → IsLibrary t library → IsList MASTER_LIMIT IsMasterFields library
+  library_fields library is =
+      (number 0 MASTER_LIMIT (length library) (omega arith) is.few (omega arith), each_by IsMasterFields library (λ i m at. master_fields m (is.masters i m at)))
 
 -- ---- tables
 
@@ -228,7 +279,7 @@ module _ (d : Database) (sound : IsSoundDatabase d) where
   inst_fields : AreEach IsInstFields d.block.inst
   inst_fields id e found =
       let is = sound.block.insts id e found in
-      let few = few_terminals d.library e.fields.master (length e.fields.terminals) sound.library is.fitted in
+      let few = few_terminals d.tech d.library e.fields.master (length e.fields.terminals) sound.library is.fitted in
       let here : inst_terms d.block id ≡ e.fields.terminals = ap (list_in (λ (x : InstEntry). x.fields.terminals)) found in
       let terminals : AllByRecursion IsId e.fields.terminals = each_by IsId e.fields.terminals (λ k part at.
       let placed = (sound.block.placed id k part).0 (ap (λ (ids : List ℕ). slice_get ids k) here ∙ at) in
@@ -252,7 +303,7 @@ module _ (d : Database) (sound : IsSoundDatabase d) where
   inst_live : (inst index part : ℕ) (o : Option InstEntry) → record_at d.block.inst inst ≡ o → slice_get (list_in (λ x. x.fields.terminals) o) index ≡ Some part → IsId inst × IsId index
   inst_live inst index part None is at = absurd (none_in index part at)
   inst_live inst index part (Some e) is at =
-      let few = few_terminals d.library e.fields.master (length e.fields.terminals) sound.library (sound.block.insts inst e is).fitted in
+      let few = few_terminals d.tech d.library e.fields.master (length e.fields.terminals) sound.library (sound.block.insts inst e is).fitted in
       let within = slice_get_within e.fields.terminals index part at in
       (live_id d.cap d.block.inst inst sound.capped sound.block.inst (found_live d.block.inst inst e is), omega (arith, few, within))
 
@@ -308,7 +359,6 @@ header_fields h new =
 pub saved_fields : (d : Database) → IsSoundDatabase d → IsSavedFields d.cap (spelled d)
 saved_fields d sound =
     let others = sound.block.others in
-    let tech : IsTechFields d.tech = (((number 0 100000 d.tech.units (omega arith) sound.units (omega arith), tt), tt), tt) in
     let built : IsBuiltFields d.cap d.block = (
       (
         (
@@ -328,4 +378,4 @@ saved_fields d sound =
     let group = empty_fields kind.Group d.cap IsGroupFields d.block.group others.group in
     let prop = empty_fields kind.Prop d.cap IsPropFields d.block.prop others.prop in
     let other : IsOtherFields d.cap d.block = (((((((pin, row), track), wire), blockage), region), group), prop) in
-    ((((tt, tt), tech), library_fields d.library sound.library), ((header_fields d.block.header sound.block.header, built), other))
+    ((((tt, tt), tech_fields d.tech sound.tech), library_fields d.tech sound.tech d.library sound.library), ((header_fields d.block.header sound.block.header, built), other))

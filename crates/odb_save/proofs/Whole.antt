@@ -26,12 +26,14 @@ use Rattle.saved_reader.proofs.Compound.{IsTableOf, listed, optional, table_code
 use Rattle.saved_reader.proofs.Counted.{IsList, no_list_codec}
 use Rattle.saved_reader.proofs.Single.{IsWord, u32_codec, u8_codec, word_codec}
 use Rattle.odb_save.specs.Kinds.{table_in}
-use Rattle.odb_save.specs.Library.{library_bytes, tech_bytes}
+use Rattle.odb_save.specs.Library.{library_bytes}
 use Rattle.odb_save.specs.Objects.{blockage_bytes, bterm_bytes, group_bytes, inst_bytes, iterm_bytes, net_bytes, pin_bytes, prop_bytes, region_bytes, row_bytes, track_bytes, wire_bytes}
 use Rattle.odb_save.specs.Parts.{list_bytes, option_bytes, rect_bytes, table_bytes}
 use Rattle.odb_save.specs.Save.{block_bytes, definition_bytes, header_bytes, via_bytes}
+use Rattle.odb_save.specs.Technology.{tech_bytes}
 use Rattle.odb_save.proofs.OtherRecords.{IsBlockageFields, IsGroupFields, IsPinFields, IsPropFields, IsRegionFields, IsRowFields, IsTrackFields, IsWireFields, blockage_codec, group_codec, pin_codec, prop_codec, region_codec, row_codec, track_codec, wire_codec}
-use Rattle.odb_save.proofs.Readable.{IsBTermFields, IsITermFields, IsInstFields, IsMasterFields, IsNetFields, IsNoText, IsTechFields, bterm_codec, inst_codec, iterm_codec, library_codec, net_codec, no_text_codec, tech_codec}
+use Rattle.odb_save.proofs.Readable.{IsBTermFields, IsITermFields, IsInstFields, IsMasterFields, IsNetFields, IsNoText, bterm_codec, inst_codec, iterm_codec, library_codec, net_codec, no_text_codec}
+use Rattle.odb_save.proofs.TechRecords.{IsTechFields, tech_codec}
 
 -- ---- the header
 

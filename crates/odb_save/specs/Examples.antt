@@ -1,11 +1,12 @@
 -- Databases whose saved bytes are written out by hand.
-use Rattle.std.specs.Prelude.{◌++◌, List, [], ◌∷◌, ℕ, ℤ, zero, suc, pos, negsuc, Option, None, Some, false, true, codes}
+use Rattle.std.specs.Prelude.{◌++◌, List, [], ◌∷◌, ℕ, zero, suc, pos, negsuc, None, Some, false, true, codes}
 use Rattle.odb_base.specs.declared.codes.direction.Direction.TheVariants as direction
 use Rattle.odb_base.specs.declared.codes.orient.Orient.TheVariants as orient
 use Rattle.odb_base.specs.declared.codes.place_status.PlaceStatus.TheVariants as status
 use Rattle.odb_base.specs.declared.codes.usage.Usage.TheVariants as usage
 use Rattle.block_records.specs.Header.{new_header}
 use Rattle.block_records.specs.declared.iterm.ITermRec.{ITermRec}
+use Rattle.tech.specs.Technology.{empty_technology, with_units}
 use Rattle.library.specs.declared.master.Master.{Master}
 use Rattle.block_store.specs.declared.entry.InstEntry.{InstEntry}
 use Rattle.block_store.specs.declared.entry.NetEntry.{NetEntry}
@@ -96,7 +97,7 @@ joined_bterm = record {
 
 abbrev pub one_gate : ℕ → Database
 one_gate cap = record {
-  tech = record { units = 1000 };
+  tech = with_units 1000 empty_technology;
   library = gate ∷ [];
   block = record (empty_block new_header) {
     inst = record { slots = Some placed_inst ∷ []; free = [] };

@@ -1,5 +1,8 @@
 -- What fits the counts of the format, which have 32 bits. Each entry of a sound database does.
-use Rattle.std.specs.Prelude.{◌^◌, ◌<◌, List, ℕ, length}
+use Rattle.std.specs.Prelude.{◌^◌, ◌<◌, List, length}
+use Rattle.library.specs.declared.master.Master.{Master}
+use Rattle.library.specs.declared.mterm.MTerm.{MTerm}
+use Rattle.lawful_parts.specs.Lawful.{AreAll}
 use Rattle.block_store.specs.declared.entry.InstEntry.{InstEntry}
 use Rattle.block_store.specs.declared.entry.NetEntry.{NetEntry}
 use Rattle.block_store.specs.declared.entry.BTermEntry.{BTermEntry}
@@ -7,6 +10,13 @@ use Rattle.block_store.specs.declared.entry.BTermEntry.{BTermEntry}
 -- a list that a count of 32 bits can tell
 abbrev pub IsShort : {A : Type 0} → List A → Type 0
 IsShort xs = length xs < 2 ^ 32
+
+pub record FitsMaster (m : Master) : Type 0 where
+  pub class : IsShort m.class
+  pub foreign : IsShort m.foreign
+  pub terminals : IsShort m.terminals
+  pub shapes : AreAll (λ (t : MTerm). IsShort t.shapes) m.terminals
+  pub obstructions : IsShort m.obstructions
 
 pub record FitsInst (e : InstEntry) : Type 0 where
   pub terminals : IsShort e.fields.terminals

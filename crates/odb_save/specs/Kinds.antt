@@ -1,5 +1,5 @@
 -- Each table of a block with the bytes of its records.
-use Rattle.std.specs.Prelude.{◌++◌, List, ℕ, drop}
+use Rattle.std.specs.Prelude.{List, ℕ, drop}
 use Rattle.std.specs.List.{flat_map}
 use Rattle.odb_base.specs.declared.codes.kind.Kind.{Kind}
 use Rattle.odb_base.specs.declared.codes.kind.Kind.TheVariants as kind

@@ -1,4 +1,4 @@
-pub mod Entering
+pub mod Design
 pub mod Entries
 pub mod Examples
 pub mod Fits
@@ -10,3 +10,4 @@ pub mod Objects
 pub mod Parts
 pub mod Save
 pub mod Spelled
+pub mod Technology

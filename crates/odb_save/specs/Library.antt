@@ -1,21 +1,11 @@
--- The bytes of a technology and of a library.
+-- The bytes of a library.
 use Rattle.std.specs.Prelude.{◌++◌, List, ℕ}
 use Rattle.odb_base.specs.Direction.{direction_code}
 use Rattle.odb_base.specs.Usage.{usage_code}
 use Rattle.odb_fields.specs.Fields.{i32_bytes, text_bytes, u8_bytes, u32_bytes}
-use Rattle.tech.specs.Technology.{Technology}
 use Rattle.library.specs.declared.master.Master.{Master}
 use Rattle.library.specs.declared.mterm.MTerm.{MTerm}
-use Rattle.library.specs.declared.shape.Shape.{Shape}
-use Rattle.odb_save.specs.Parts.{list_bytes, rect_bytes}
-
--- the technology: the units, and the lists of layers, vias and sites, which are empty as yet
-unfoldable pub tech_bytes : Technology → List ℕ
-tech_bytes t = u32_bytes t.units ++ u32_bytes 0 ++ u32_bytes 0 ++ u32_bytes 0
-
--- a shape: its layer, and its rectangle
-unfoldable pub shape_bytes : Shape → List ℕ
-shape_bytes s = u32_bytes s.layer.0 ++ rect_bytes s.rect
+use Rattle.odb_save.specs.Parts.{list_bytes, shape_bytes}
 
 -- a terminal of a master
 unfoldable pub mterm_bytes : MTerm → List ℕ

@@ -1,8 +1,11 @@
 -- The faults of loading that stand for those of the calls below.
+use Rattle.std.specs.Prelude.{None}
 use Rattle.block_tables.specs.declared.fault.TablesFault.{TablesFault}
 use Rattle.block_tables.specs.declared.fault.TablesFault.TheVariants as tables
 use Rattle.saved_reader.specs.declared.fault.ReadFault.{ReadFault}
 use Rattle.saved_reader.specs.declared.fault.ReadFault.TheVariants as read
+use Rattle.tech_parts.specs.declared.fault.PartFault.{PartFault}
+use Rattle.tech_parts.specs.declared.fault.PartFault.TheVariants as part
 use Rattle.odb_save.specs.declared.load_fault.LoadFault.{LoadFault}
 use Rattle.odb_save.specs.declared.load_fault.LoadFault.TheVariants as load
 
@@ -15,6 +18,11 @@ of_read (read.BadField at) = load.BadField at
 of_read (read.OverCap kind) = load.OverCap kind
 of_read (read.Trailing at) = load.Trailing at
 of_read read.Memory = load.Memory
+
+-- that of entering a technology and a library
+abbrev pub of_part : PartFault → LoadFault
+of_part part.Memory = load.Memory
+of_part fault = load.Unsound None 0
 
 -- that of tables
 abbrev pub of_tables : TablesFault → LoadFault

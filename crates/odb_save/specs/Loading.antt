@@ -2,7 +2,8 @@
 use Rattle.std.specs.Prelude.{◌≡◌, List, ℕ, Option, None, Some, Result, Ok, Err}
 use Rattle.odb_base.specs.declared.codes.kind.Kind.{Kind}
 use Rattle.library.specs.declared.master.Master.{Master}
-use Rattle.block_store.specs.Database.{Database, IsLibrary, IsSoundDatabase}
+use Rattle.tech.specs.Technology.{Technology}
+use Rattle.block_store.specs.Database.{Database, IsSoundDatabase}
 use Rattle.block_tables.specs.Places.{IsLeastInKind}
 use Rattle.block_tables.specs.Rules.{IsSoundHeader}
 use Rattle.saved_reader.specs.declared.fault.ReadFault.TheVariants as read
@@ -10,21 +11,22 @@ use Rattle.saved_reader.specs.declared.saved.Saved.{Saved}
 use Rattle.saved_reader.specs.Saved.{saved_in}
 use Rattle.odb_save.specs.declared.load_fault.LoadFault.{LoadFault}
 use Rattle.odb_save.specs.declared.load_fault.LoadFault.TheVariants as load
+use Rattle.odb_save.specs.Design.{IsDesign}
 use Rattle.odb_save.specs.Save.{save_bytes}
 use Rattle.odb_save.specs.Spelled.{database_of}
 
 -- ---- what was read and isn't sound
 
--- the library that was read is lawful, and the header of the block is sound with it
+-- the technology and the library that were read are lawful, and the header of the block is sound with them
 pub record IsSavedHeader (s : Saved) : Type 0 where
-  pub library : IsLibrary s.library
+  pub design : IsDesign s.tech s.library
   pub header : IsSoundHeader s.library s.tables
 
--- The least place that isn't sound. The library and the header come first, of no kind and with identifier 0; then the
+-- The least place that isn't sound. The technology, the library and the header come first, of no kind and with identifier 0; then the
 -- kinds in the order of their codes, in each the table, with identifier 0, before its records by their identifiers.
 abbrev pub IsLeastUnsound : ℕ → Saved → Option Kind → ℕ → Type 0
 IsLeastUnsound cap s None id = (id ≡ 0) × (¬ (IsSavedHeader s))
-IsLeastUnsound cap s (Some k) id = IsLibrary s.library × IsLeastInKind s.library cap s.tables k id
+IsLeastUnsound cap s (Some k) id = IsDesign s.tech s.library × IsLeastInKind s.library cap s.tables k id
 
 -- what was read is no sound database with this cap, and this is the least place
 pub record IsUnsoundAt (cap : ℕ) (s : Saved) (kind : Option Kind) (id : ℕ) : Type 0 where
@@ -79,10 +81,10 @@ abbrev pub IsLoadAnswer : ℕ → List ℕ → Result Database LoadFault → Typ
 IsLoadAnswer cap bytes (Err load.Memory) = Unit {0}
 IsLoadAnswer cap bytes answer = Loads cap bytes answer
 
--- the fault is that these masters are no lawful library, or that there is no memory
-abbrev pub IsLibraryFault : List Master → LoadFault → Type 0
-IsLibraryFault masters load.Memory = Unit {0}
-IsLibraryFault masters fault = (fault ≡ load.Unsound None 0) × (¬ (IsLibrary masters))
+-- the fault is that this technology and these masters aren't lawful, or that there is no memory
+abbrev pub IsDesignFault : Technology → List Master → LoadFault → Type 0
+IsDesignFault t masters load.Memory = Unit {0}
+IsDesignFault t masters fault = (fault ≡ load.Unsound None 0) × (¬ (IsDesign t masters))
 
 -- the fault says where what was read isn't sound, or that there is no memory
 abbrev pub IsPartFault : ℕ → Saved → LoadFault → Type 0

@@ -10,9 +10,7 @@ use Rattle.odb_base.specs.Usage.{usage_code}
 use Rattle.odb_base.specs.WireStatus.{wire_status_code}
 use Rattle.odb_fields.specs.Fields.{i32_bytes, text_bytes, u8_bytes, u32_bytes}
 use Rattle.block_records.specs.declared.iterm.ITermRec.{ITermRec}
-use Rattle.block_records.specs.declared.pin.LayerRect.{LayerRect}
 use Rattle.block_records.specs.declared.pin.PinRec.{PinRec}
-use Rattle.block_records.specs.declared.row.RowRec.{RowRec}
 use Rattle.block_records.specs.declared.track.TrackRec.{TrackRec}
 use Rattle.block_records.specs.declared.wire.WireRec.{WireRec}
 use Rattle.block_records.specs.declared.blockage.BlockageRec.{BlockageRec}
@@ -23,7 +21,7 @@ use Rattle.block_store.specs.declared.entry.BTermEntry.{BTermEntry}
 use Rattle.block_store.specs.declared.entry.RowEntry.{RowEntry}
 use Rattle.block_store.specs.declared.entry.RegionEntry.{RegionEntry}
 use Rattle.block_store.specs.declared.entry.GroupEntry.{GroupEntry}
-use Rattle.odb_save.specs.Parts.{flag_bytes, ids_bytes, list_bytes, place_bytes, rect_bytes, term_bytes}
+use Rattle.odb_save.specs.Parts.{flag_bytes, ids_bytes, list_bytes, place_bytes, rect_bytes, shape_bytes, term_bytes}
 
 -- an instance; its terminals stand in the order of the master's
 unfoldable pub inst_bytes : InstEntry → List ℕ
@@ -48,13 +46,9 @@ bterm_bytes e =
     text_bytes e.fields.name ++ u32_bytes e.fields.net ++ u8_bytes (direction_code e.fields.direction)
     ++ u8_bytes (usage_code e.fields.usage) ++ ids_bytes e.pins ++ text_bytes e.fields.kept
 
--- a rectangle on a layer
-unfoldable pub layer_rect_bytes : LayerRect → List ℕ
-layer_rect_bytes b = u32_bytes b.layer ++ rect_bytes b.rect
-
 -- a pin
 unfoldable pub pin_bytes : PinRec → List ℕ
-pin_bytes r = u32_bytes r.bterm ++ place_bytes r.place ++ list_bytes layer_rect_bytes r.boxes ++ text_bytes r.kept
+pin_bytes r = u32_bytes r.bterm ++ place_bytes r.place ++ list_bytes shape_bytes r.boxes ++ text_bytes r.kept
 
 -- a row
 unfoldable pub row_bytes : RowEntry → List ℕ

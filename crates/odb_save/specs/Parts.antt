@@ -7,6 +7,7 @@ use Rattle.odb_base.specs.PlaceStatus.{place_status_code}
 use Rattle.odb_base.specs.declared.codes.kind.Kind.TheVariants as kind
 use Rattle.odb_base.specs.declared.geometry.Placement.{Placement}
 use Rattle.odb_base.specs.declared.geometry.Rect.{Rect}
+use Rattle.odb_base.specs.declared.geometry.Shape.{Shape}
 use Rattle.odb_fields.specs.Fields.{i32_bytes, u8_bytes, u32_bytes}
 use Rattle.slot_pool.specs.Table.{Table}
 
@@ -35,6 +36,10 @@ ids_bytes ids = list_bytes u32_bytes ids
 -- a rectangle: its lower left corner, and its upper right one
 unfoldable pub rect_bytes : Rect → List ℕ
 rect_bytes r = i32_bytes r.xl ++ i32_bytes r.yl ++ i32_bytes r.xh ++ i32_bytes r.yh
+
+-- a rectangle on a layer: the layer, and the rectangle
+unfoldable pub shape_bytes : Shape → List ℕ
+shape_bytes s = u32_bytes s.layer.0 ++ rect_bytes s.rect
 
 -- a placement: the status, the point, and the orientation
 unfoldable pub place_bytes : Placement → List ℕ

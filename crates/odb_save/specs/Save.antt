@@ -11,8 +11,9 @@ use Rattle.block_records.specs.declared.header.PropDef.{PropDef}
 use Rattle.block_store.specs.Block.{Block}
 use Rattle.block_store.specs.Database.{Database}
 use Rattle.odb_save.specs.Kinds.{table_in}
-use Rattle.odb_save.specs.Library.{library_bytes, tech_bytes}
+use Rattle.odb_save.specs.Library.{library_bytes}
 use Rattle.odb_save.specs.Parts.{list_bytes, option_bytes, rect_bytes}
+use Rattle.odb_save.specs.Technology.{tech_bytes}
 
 -- the definition of a property
 unfoldable pub definition_bytes : PropDef → List ℕ

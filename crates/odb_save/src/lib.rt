@@ -20,6 +20,7 @@
 #![tactic(auto)]
 
 pub mod database;
+mod design;
 mod header;
 pub mod laws;
 mod lists;
@@ -30,6 +31,7 @@ mod objects;
 mod parts;
 mod slots;
 mod tables;
+mod technology;
 
 pub use database::save;
 pub use laws::{

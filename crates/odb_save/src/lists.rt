@@ -1,13 +1,15 @@
-ghost use Rattle.std.specs.Prelude.{◌≡◌, ◌++◌, List, ℕ, OnOk, Some, length, slice_get};
+ghost use Rattle.std.specs.Prelude.{◌≡◌, ◌++◌, ◌<◌, ◌^◌, List, ℕ, OnOk, Some, length, slice_get};
 ghost use Rattle.odb_fields.specs.Putting.{KeepsVector, bytes_in};
 ghost use Rattle.block_store.specs.Block.{free_in};
 ghost use Rattle.block_store.specs.Lists.{list_at};
+ghost use Rattle.lawful_parts.specs.Lawful.{AreAll};
 ghost use Rattle.odb_save.specs.Fits.{IsShort};
-ghost use Rattle.odb_save.specs.Parts.{ids_bytes, list_bytes, term_bytes};
+ghost use Rattle.odb_save.specs.Parts.{ids_bytes, list_bytes, shape_bytes, term_bytes};
 
-use crate::parts::put_term;
+use crate::parts::{put_rect, put_term};
 use block_store::{Block, ListOf};
-use odb_base::{Kind, NetId};
+use named_list::{Named, NamedList};
+use odb_base::{Kind, NetId, Shape};
 use odb_fields::Put;
 use std::alloc::AllocError;
 
@@ -37,6 +39,48 @@ pub fn put_list<T: Saved>(put: &mut Put<'_>, items: &[T]) -> Result<(), AllocErr
         item.put(put)?;
     }
     Ok(())
+}
+
+impl Saved for Shape {
+    ghost bytes_of = { shape_bytes };
+
+    ghost fits = { λ _. Unit {0} };
+
+    #[tactic(auto, unfolding(crate::specs::Parts::shape_bytes))]
+    fn put(&self, put: &mut Put<'_>) -> Result<(), AllocError> {
+        put.put_u32(self.layer.0)?;
+        put_rect(put, &self.rect)?;
+        Ok(())
+    }
+}
+
+// Things with names, in the order of their identifiers.
+#[tactic(auto, unfolding(crate::specs::Parts::list_bytes))]
+pub fn put_named<T: Named + Saved + Drop>(
+    put: &mut Put<'_>,
+    things: &NamedList<T>,
+) -> Result<(), AllocError>
+    requires { AreAll T.fits things.now }
+    ensures ok { OnOk result (bytes_in put.new ≡ bytes_in put.old ++ list_bytes T.bytes_of things.now) }
+    ensures vector { KeepsVector put.old put.new }
+{
+    put.put_u32(things.count())?;
+    for place in 0..things.count() {
+        thing_at(things, place).put(put)?;
+    }
+    Ok(())
+}
+
+// What stands at a place, from 0.
+fn thing_at<T: Named + Drop>(things: &NamedList<T>, place: u32) -> &T
+    requires few { length things.now < 2 ^ 32 }
+    requires within { place < length things.now }
+    ensures { slice_get things.now place ≡ Some result.now }
+{
+    match things.get(place + 1) {
+        None => unreachable!(),
+        Some(thing) => thing,
+    }
 }
 
 // The members of a list.

@@ -1,11 +1,12 @@
 ghost use Rattle.std.specs.Prelude.{◌≡◌};
 ghost use Rattle.odb_save.specs.declared.load_fault.LoadFault.TheVariants.{Memory};
-ghost use Rattle.odb_save.specs.LoadFaults.{of_read, of_tables};
+ghost use Rattle.odb_save.specs.LoadFaults.{of_part, of_read, of_tables};
 
 use block_tables::TablesFault;
 use odb_base::Kind;
 use saved_reader::ReadFault;
 use std::alloc::AllocError;
+use tech_parts::PartFault;
 
 /// Why bytes aren't loaded: what is met first, read from the front, and then the least place that isn't sound.
 #[derive(Clone, Copy, Debug, PartialEq, Eq)]
@@ -22,9 +23,9 @@ pub enum LoadFault {
     OverCap { kind: Kind },
     /// A byte stands at this place, behind the last table.
     Trailing { at: u64 },
-    /// What was read doesn't fit together. This is its least place that isn't sound: the library and the header of the
-    /// block, of no kind and with identifier 0; then the kinds in the order of their codes, in each the table, with
-    /// identifier 0, before the records by their identifiers.
+    /// What was read doesn't fit together. This is its least place that isn't sound: the technology, the library and the
+    /// header of the block, of no kind and with identifier 0; then the kinds in the order of their codes, in each the
+    /// table, with identifier 0, before the records by their identifiers.
     Unsound { kind: Option<Kind>, id: u32 },
     /// There is no memory. It says nothing of the bytes.
     Memory,
@@ -51,6 +52,18 @@ impl From<AllocError> for LoadFault {
 
     fn from(_: AllocError) -> LoadFault {
         LoadFault::Memory
+    }
+}
+
+impl From<PartFault> for LoadFault {
+    ghost from_gives = { λ fault e. e ≡ of_part fault };
+
+    fn from(fault: PartFault) -> LoadFault {
+        match fault {
+            PartFault::Memory => LoadFault::Memory,
+            // What no table has stands with the header, of no kind.
+            _ => LoadFault::Unsound { kind: None, id: 0 },
+        }
     }
 }
 

@@ -1,19 +1,16 @@
-ghost use Rattle.std.specs.Prelude.{◌≡◌, ◌↔◌, ◌≤◌, ◌++◌, ◌∷◌, [], List as ListOf, IfErr, IfOk, IsTrue, OnOk};
+ghost use Rattle.std.specs.Prelude.{◌≡◌, ◌≤◌, IfErr, IfOk, OnOk};
 ghost use Rattle.odb_base.specs.declared.codes.kind.Kind.{Kind as AnyKind};
-ghost use Rattle.library.specs.declared.master.Master.{Master as AnyMaster};
 ghost use Rattle.block_store.specs.declared.block.TheConstants.{SLOT_LIMIT};
 ghost use Rattle.block_store.specs.Block.{slots_in};
-ghost use Rattle.block_store.specs.Database.{Database as AnyDatabase, IsLibrary, IsSoundDatabase};
-ghost use Rattle.odb_save.specs.Entering.{MayEnter};
-ghost use Rattle.odb_save.specs.Loading.{HasLoadCause, IsLibraryFault, IsLoadAnswer, IsLoadedAs, IsPartFault};
+ghost use Rattle.block_store.specs.Database.{Database as AnyDatabase, IsSoundDatabase};
+ghost use Rattle.odb_save.specs.Loading.{HasLoadCause, IsLoadAnswer, IsLoadedAs, IsPartFault};
 ghost use Rattle.odb_save.specs.Save.{save_bytes};
-ghost use Rattle.odb_save.specs.Spelled.{database_of};
+ghost use Rattle.odb_save.specs.Spelled.{database_of, spelled_with};
 
+use crate::design::make_design;
 use crate::load_fault::LoadFault;
-use block_store::{Block, Database, is_lawful_master};
+use block_store::{Block, Database, Tables};
 use block_tables::FromTables;
-use library::{Library, MASTER_LIMIT, Master};
-use odb_base::List;
 use saved_reader::{Saved, read_saved};
 use std::alloc::Global;
 
@@ -54,42 +51,41 @@ fn make_database(alloc: Global, saved: Saved, cap: u32) -> Result<Database, Load
         library,
         tables,
     } = saved;
-    let library = make_library(alloc, library)?;
-    let block = Block::from_tables(alloc, tables, &tech, &library, cap)?;
-    Ok(Database::of_parts(tech, library, block))
-}
-
-// The library of these masters, in their order, where it is lawful.
-fn make_library(alloc: Global, masters: List<Master>) -> Result<Library, LoadFault>
-    ensures ok { OnOk result (IsLibrary masters) }
-    ensures masters { IfOk result (λ library. library ≡ masters) }
-    ensures err { IfErr result (λ fault. IsLibraryFault masters fault) }
-{
-    let mut library = Library::new(alloc);
-    for master in masters.into_vec() {
-        enter(&mut library, master)?;
+    match make_design(alloc, tech, library, cap) {
+        Ok(design) => with_tables(alloc, design, tables, cap),
+        Err(fault) => {
+            // By a call, which is proved once for each type, as in the other refusals.
+            drop(tables);
+            Err(fault)
+        }
     }
-    Ok(library)
 }
 
-// Puts a master last in a library, where it may stand there.
-fn enter(library: &mut Library, master: Master) -> Result<(), LoadFault>
-    ensures ok { OnOk result (library.new ≡ library.old ++ master ∷ []) }
-    ensures may { OnOk result (MayEnter library.old master) }
-    ensures err { IfErr result (λ fault. (more : ListOf AnyMaster) → IsLibraryFault (library.old ++ master ∷ more) fault) }
+// The design with the block of these tables, where that is sound.
+fn with_tables(
+    alloc: Global,
+    design: Database,
+    tables: Tables,
+    cap: u32,
+) -> Result<Database, LoadFault>
+    requires limit { cap ≤ SLOT_LIMIT }
+    requires within { (k : AnyKind) → slots_in k tables ≤ cap }
+    ensures sound { OnOk result (IsSoundDatabase (database_of cap (spelled_with design tables))) }
+    ensures ok { IfOk result (λ d. d ≡ database_of cap (spelled_with design tables)) }
+    ensures err { IfErr result (λ fault. IsPartFault cap (spelled_with design tables) fault) }
 {
-    if !may_enter(library, &master) {
-        return Err(LoadFault::Unsound { kind: None, id: 0 });
+    let Database {
+        tech,
+        library,
+        block,
+    } = design;
+    drop(block);
+    match Block::from_tables(alloc, tables, &tech, &library, cap) {
+        Ok(block) => Ok(Database::of_parts(tech, library, block)),
+        Err(fault) => {
+            drop(tech);
+            drop(library);
+            Err(LoadFault::from(fault))
+        }
     }
-    library.add_master(master)?;
-    Ok(())
-}
-
-// Whether a master may stand last in a library.
-fn may_enter(library: &Library, master: &Master) -> bool
-    ensures { IsTrue result ↔ MayEnter library.now master.now }
-{
-    is_lawful_master(master)
-        && library.find_master(master.name.bytes()).is_none()
-        && library.count() < MASTER_LIMIT
 }

@@ -39,11 +39,17 @@ fn the_empty_database(rt: HostRuntime) -> Result<(), Fail> {
     expected.text(b"ODBS\x01\0\0\0")?;
     expected.zeros(24)?;
     expected.rest()?;
-    let db = Database::new(alloc, 10)?;
-    let bytes = save(alloc, &db)?;
+    let bytes = saved(alloc, Database::new(alloc, 10)?)?;
     assert_eq!(rt; bytes.len(), 148);
     assert!(rt; bytes.as_slice() == expected.bytes.as_slice());
     Ok(())
+}
+
+// The saved bytes of a database, which is given up.
+fn saved(alloc: Global, db: Database) -> Result<Vec<u8>, AllocError> {
+    let bytes = save(alloc, &db);
+    drop(db);
+    bytes
 }
 
 // One slot with the net `a`, and no free identifier.
@@ -75,7 +81,7 @@ fn load_fault(alloc: Global, bytes: &[u8], cap: u8) -> Option<LoadFault> {
 fn is_refused_or_saved(alloc: Global, bytes: &[u8]) -> Result<bool, AllocError> {
     match load(alloc, bytes, 10) {
         Err(fault) => Ok(fault != LoadFault::Memory),
-        Ok(db) => Ok(save(alloc, &db)?.as_slice() == bytes),
+        Ok(db) => Ok(saved(alloc, db)?.as_slice() == bytes),
     }
 }
 
@@ -86,7 +92,7 @@ fn one_net_is_loaded(rt: HostRuntime) -> Result<(), Fail> {
     assert_eq!(rt; bytes.len(), 176);
     let db = load(alloc, &bytes, 10)?;
     assert_eq!(rt; db.block.slots(Kind::Net), 1);
-    assert!(rt; save(alloc, &db)?.as_slice() == bytes.as_slice());
+    assert!(rt; saved(alloc, db)?.as_slice() == bytes.as_slice());
     Ok(())
 }
 

@@ -15,7 +15,7 @@ use Rattle.odb_fields.specs.Fields.{i32_bytes, u32_bytes, u8_bytes}
 use Rattle.odb_fields.specs.Reading.{Cursor, u32_at, ◌>>=◌}
 use Rattle.odb_fields.proofs.Inputs.{bind_ok}
 use Rattle.slot_pool.specs.Table.{Table}
-use Rattle.block_store.specs.Lawful.{is_coordinate}
+use Rattle.lawful_parts.specs.Tests.{is_coordinate}
 use Rattle.saved_reader.specs.Fields.{coded_at, distance_at, id_at, is_from}
 use Rattle.saved_reader.specs.Parts.{free_count_at, may_be_turned, may_have, may_stand, option_at, place_at, placement_of, rect_at, rect_of, slot_count_at, table_at, table_of, turn_at, within_cap}
 use Rattle.saved_reader.specs.Reading.{Reading, plain}

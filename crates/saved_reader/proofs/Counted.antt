@@ -7,7 +7,7 @@ use Rattle.odb_fields.specs.Bytes.{AreBytes}
 use Rattle.odb_fields.specs.Fields.{u32_bytes, u8_bytes}
 use Rattle.odb_fields.specs.Reading.{Cursor, ReadsBack, Takes, unread, u32_at}
 use Rattle.odb_fields.proofs.Inputs.{AreBytes-taken, Takes-append, bind_ok, made_back, ok_is, then_back}
-use Rattle.saved_reader.specs.Fields.{flag_at, is_between, none_at, number_at}
+use Rattle.saved_reader.specs.Fields.{flag_at, is_between, number_at}
 use Rattle.saved_reader.specs.Parts.{filled_list_at, list_at, no_list_at, option_at, stated_at}
 use Rattle.saved_reader.specs.Reading.{Reading, made, many_at, plain, with_first, ◌by◌}
 use Rattle.saved_reader.proofs.Codec.{IsCodec, by_codec}
@@ -135,19 +135,6 @@ nothing_codec {A} count IsCount writes counts zeros none = record {
 
 below_none : (n : ℕ) → is_between 0 0 n ≡ true → n ≡ 0
 below_none n h = let p = and_parts (leb 0 n) (leb n 0) h in grind (arith, nat_tests, p.1)
-
--- the number 0
-pub none_codec : IsCodec none_at (λ u. u32_bytes 0) (λ u. Unit {0})
-unfolding none_at number_at
-none_codec = record {
-  back = λ u fits. made_back (number_at 0 0) (λ n. tt) (u32_bytes 0) 0 ((number_codec 0 0).back 0 (refl, omega arith));
-  only = λ old new x are e fits.
-      let u = bind_ok (number_at 0 0 old) (λ p. Ok (tt, p.1)) (x, new) e in
-      let zero_is : u.0.0 ≡ 0 = below_none u.0.0 (such_passes (is_between 0 0) (plain u32_at) old u.0.1 u.0.0 u.1) in
-      let Q : ℕ → Type 0 = λ n. number_at 0 0 old ≡ Ok (n, u.0.1) in
-      let P : Unit {0} × Cursor → Type 0 = λ t. Takes old (u32_bytes 0) t.1 in
-      subst P (ok_is (tt, u.0.1) (x, new) u.2) ((number_codec 0 0).only old u.0.1 0 are (subst Q zero_is u.1) (refl, omega arith));
-}
 
 -- a list that has no items yet
 pub no_list_codec : {A : Type 0} (writes : A → List ℕ) → IsCodec no_list_at (λ xs. u32_bytes (length xs) ++ flat_map writes xs) (λ xs. xs ≡ [])

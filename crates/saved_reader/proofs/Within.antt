@@ -19,7 +19,8 @@ use Rattle.saved_reader.specs.declared.fault.ReadFault.{ReadFault}
 use Rattle.saved_reader.specs.declared.saved.Saved.{Saved}
 use Rattle.saved_reader.specs.Fields.{id_at, such}
 use Rattle.saved_reader.specs.Grouping.{group_at, prop_at, region_at}
-use Rattle.saved_reader.specs.Library.{library_at, tech_at}
+use Rattle.saved_reader.specs.Library.{library_at}
+use Rattle.saved_reader.specs.Technology.{tech_at}
 use Rattle.saved_reader.specs.Objects.{bterm_at, inst_at, iterm_at, net_at}
 use Rattle.saved_reader.specs.Parts.{free_count_at, may_have, option_at, slot_count_at, table_at, table_of, within_cap}
 use Rattle.saved_reader.specs.Physical.{blockage_at, pin_at, row_at, track_at, wire_at}

@@ -5,8 +5,8 @@ use Rattle.std.specs.Str.{bytes_eq}
 use Rattle.odb_base.specs.Name.{name_fault}
 use Rattle.odb_base.specs.declared.name.TheConstants.{NAME_LIMIT}
 use Rattle.odb_fields.specs.Reading.{bytes_at, i32_at, u32_at, u8_at}
-use Rattle.block_store.specs.Lawful.{is_coordinate}
-use Rattle.saved_reader.specs.Reading.{Reading, judged, made, plain, ◌by◌}
+use Rattle.lawful_parts.specs.Tests.{is_coordinate}
+use Rattle.saved_reader.specs.Reading.{Reading, judged, plain, ◌by◌}
 
 -- the value, where it passes
 abbrev pub such : {A : Type 0} → (A → Bool) → A → Option A
@@ -24,10 +24,6 @@ small_at most input = judged (such (is_between 0 most)) (plain u8_at) input
 -- a number of four bytes, of these
 unfoldable pub number_at : ℕ → ℕ → Reading ℕ
 number_at least most input = judged (such (is_between least most)) (plain u32_at) input
-
--- the number 0, which says that there is nothing yet
-unfoldable pub none_at : Reading (Unit {0})
-none_at input = made (λ n. tt) (number_at 0 0) input
 
 -- an identifier, or any other number of four bytes; which ones name something isn't judged
 unfoldable pub id_at : Reading ℕ

@@ -25,7 +25,7 @@ region_of t = record {
 -- a region, which has no groups, no properties and no kept words yet
 unfoldable pub region_at : Reading RegionEntry
 region_at input = made region_of (
-    name_at & coded_at region_type_code region_types & filled_list_at 4294967295 rect_at
+    name_at & coded_at region_type_code region_types & filled_list_at 1000000 rect_at
     & no_list_at & no_list_at & no_text_at
     ) input
 

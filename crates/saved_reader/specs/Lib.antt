@@ -6,3 +6,4 @@ pub mod Parts
 pub mod Physical
 pub mod Reading
 pub mod Saved
+pub mod Technology

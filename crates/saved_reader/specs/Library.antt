@@ -1,32 +1,16 @@
--- A technology and a library.
+-- A library.
 use Rattle.std.specs.Prelude.{List, ℕ, ℤ}
 use Rattle.odb_base.specs.Direction.{direction_code, directions}
 use Rattle.odb_base.specs.Usage.{usage_code, usages}
 use Rattle.odb_base.specs.declared.codes.direction.Direction.{Direction}
 use Rattle.odb_base.specs.declared.codes.usage.Usage.{Usage}
-use Rattle.odb_base.specs.declared.geometry.Rect.{Rect}
-use Rattle.tech.specs.Technology.{Technology}
+use Rattle.odb_base.specs.declared.geometry.Shape.{Shape}
 use Rattle.library.specs.declared.library.TheConstants.{MASTER_LIMIT}
 use Rattle.library.specs.declared.master.Master.{Master}
 use Rattle.library.specs.declared.mterm.MTerm.{MTerm}
-use Rattle.library.specs.declared.shape.Shape.{Shape}
-use Rattle.saved_reader.specs.Fields.{any_text_at, coded_at, coordinate_at, id_at, name_at, none_at, number_at, small_at}
-use Rattle.saved_reader.specs.Parts.{list_at, rect_at}
+use Rattle.saved_reader.specs.Fields.{any_text_at, coded_at, coordinate_at, id_at, name_at, small_at}
+use Rattle.saved_reader.specs.Parts.{list_at, shape_at}
 use Rattle.saved_reader.specs.Reading.{Reading, made, ◌&◌}
-
-abbrev pub technology_of : ((ℕ × Unit {0}) × Unit {0}) × Unit {0} → Technology
-technology_of t = record { units = t.0.0.0 }
-
--- the technology: the units, and the lists of layers, vias and sites, which are empty as yet
-unfoldable pub tech_at : Reading Technology
-tech_at input = made technology_of (number_at 0 100000 & none_at & none_at & none_at) input
-
-abbrev pub shape_of : ℕ × Rect → Shape
-shape_of t = record { layer = record { 0 = t.0 }; rect = t.1 }
-
--- a shape: its layer, and its rectangle
-unfoldable pub shape_at : Reading Shape
-shape_at input = made shape_of (id_at & rect_at) input
 
 abbrev pub mterm_of : ((List ℕ × Direction) × Usage) × List Shape → MTerm
 mterm_of t = record { name = t.0.0.0; direction = t.0.0.1; usage = t.0.1; shapes = t.1 }

@@ -10,9 +10,10 @@ use Rattle.odb_base.specs.declared.codes.place_status.PlaceStatus.{PlaceStatus}
 use Rattle.odb_base.specs.declared.codes.place_status.PlaceStatus.TheVariants as status
 use Rattle.odb_base.specs.declared.geometry.Placement.{Placement}
 use Rattle.odb_base.specs.declared.geometry.Rect.{Rect}
+use Rattle.odb_base.specs.declared.geometry.Shape.{Shape}
 use Rattle.odb_fields.specs.Reading.{Cursor, u32_at, u8_at, ◌>>=◌}
 use Rattle.slot_pool.specs.Table.{Table}
-use Rattle.block_store.specs.Lawful.{is_coordinate}
+use Rattle.lawful_parts.specs.Tests.{is_coordinate}
 use Rattle.saved_reader.specs.declared.fault.ReadFault.{ReadFault}
 use Rattle.saved_reader.specs.declared.fault.ReadFault.TheVariants as fault
 use Rattle.saved_reader.specs.Fields.{coded_at, coordinate_at, distance_at, flag_at, id_at, is_from, number_at, such}
@@ -91,6 +92,13 @@ rect_at input = made rect_of (
     then (λ t. distance_at (is_from t.0))
     then (λ t. distance_at (is_from t.0.1))
     ) input
+
+abbrev pub shape_of : ℕ × Rect → Shape
+shape_of t = record { layer = record { 0 = t.0 }; rect = t.1 }
+
+-- a rectangle on a layer: the layer, and the rectangle
+unfoldable pub shape_at : Reading Shape
+shape_at input = made shape_of (id_at & rect_at) input
 
 -- The number of a terminal in the list of a net: twice the identifier of an instance terminal, one more than twice
 -- that of a block terminal, and 0, which names nothing, for what can't be a terminal.

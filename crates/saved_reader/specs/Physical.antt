@@ -11,32 +11,25 @@ use Rattle.odb_base.specs.declared.codes.track_axis.TrackAxis.{TrackAxis}
 use Rattle.odb_base.specs.declared.codes.wire_status.WireStatus.{WireStatus}
 use Rattle.odb_base.specs.declared.geometry.Placement.{Placement}
 use Rattle.odb_base.specs.declared.geometry.Rect.{Rect}
+use Rattle.odb_base.specs.declared.geometry.Shape.{Shape}
 use Rattle.block_records.specs.declared.blockage.BlockageRec.{BlockageRec}
-use Rattle.block_records.specs.declared.pin.LayerRect.{LayerRect}
 use Rattle.block_records.specs.declared.pin.PinRec.{PinRec}
 use Rattle.block_records.specs.declared.track.TrackRec.{TrackRec}
 use Rattle.block_records.specs.declared.wire.WireRec.{WireRec}
 use Rattle.block_store.specs.declared.entry.RowEntry.{RowEntry}
-use Rattle.block_store.specs.Lawful.{is_coordinate}
+use Rattle.lawful_parts.specs.Tests.{is_coordinate}
 use Rattle.saved_reader.specs.Fields.{coded_at, coordinate_at, distance_at, flag_at, id_at, is_from, name_at, no_text_at, number_at}
-use Rattle.saved_reader.specs.Parts.{filled_list_at, list_at, no_list_at, place_at, rect_at}
+use Rattle.saved_reader.specs.Parts.{filled_list_at, list_at, no_list_at, place_at, rect_at, shape_at}
 use Rattle.saved_reader.specs.Reading.{Reading, made, ◌&◌, ◌then◌}
 
 -- ---- pins
 
-abbrev pub layer_rect_of : ℕ × Rect → LayerRect
-layer_rect_of t = record { layer = t.0; rect = t.1 }
-
--- a rectangle on a layer
-unfoldable pub layer_rect_at : Reading LayerRect
-layer_rect_at input = made layer_rect_of (id_at & rect_at) input
-
-abbrev pub pin_of : ((ℕ × Placement) × List LayerRect) × List ℕ → PinRec
+abbrev pub pin_of : ((ℕ × Placement) × List Shape) × List ℕ → PinRec
 pin_of t = record { bterm = t.0.0.0; place = t.0.0.1; boxes = t.0.1; kept = t.1 }
 
 -- a pin, which has no kept words yet
 unfoldable pub pin_at : Reading PinRec
-pin_at input = made pin_of (id_at & place_at & list_at 1000000 layer_rect_at & no_text_at) input
+pin_at input = made pin_of (id_at & place_at & list_at 1000000 shape_at & no_text_at) input
 
 -- ---- rows
 

@@ -29,7 +29,8 @@ use Rattle.saved_reader.specs.declared.fault.ReadFault.TheVariants as fault
 use Rattle.saved_reader.specs.declared.saved.Saved.{Saved}
 use Rattle.saved_reader.specs.Fields.{no_text_at, word_at}
 use Rattle.saved_reader.specs.Grouping.{group_at, prop_at, region_at}
-use Rattle.saved_reader.specs.Library.{library_at, tech_at}
+use Rattle.saved_reader.specs.Library.{library_at}
+use Rattle.saved_reader.specs.Technology.{tech_at}
 use Rattle.saved_reader.specs.Objects.{bterm_at, inst_at, iterm_at, net_at}
 use Rattle.saved_reader.specs.Parts.{absent_at, no_list_at, table_at}
 use Rattle.saved_reader.specs.Physical.{blockage_at, pin_at, row_at, track_at, wire_at}

@@ -1,6 +1,6 @@
 ghost use Rattle.std.specs.Prelude.{◌≡◌, ◌<◌, ◌^◌, length};
-ghost use Rattle.block_store.specs.Lawful.{is_coordinate};
-ghost use Rattle.saved_reader.specs.Fields.{any_text_at, coded_at, coordinate_at, distance_at, flag_at, id_at, is_from, name_at, no_text_at, none_at, number_at, small_at, text_at, word_at};
+ghost use Rattle.lawful_parts.specs.Tests.{is_coordinate};
+ghost use Rattle.saved_reader.specs.Fields.{any_text_at, coded_at, coordinate_at, distance_at, flag_at, id_at, is_from, name_at, no_text_at, number_at, small_at, text_at, word_at};
 ghost use Rattle.saved_reader.specs.Reading.{Reads, ReadsAs};
 
 use crate::fault::ReadFault;
@@ -34,15 +34,6 @@ pub fn get_number(input: &mut Get<'_>, least: u32, most: u32) -> Result<u32, Rea
     } else {
         Err(ReadFault::BadField { at })
     }
-}
-
-/// Reads the number 0, which says that there is nothing yet.
-#[tactic(auto, unfolding(crate::specs::Fields::none_at))]
-pub fn get_none(input: &mut Get<'_>) -> Result<(), ReadFault>
-    ensures { ReadsAs (λ _. tt) result (none_at input.old) input.new }
-{
-    let _none = get_number(input, 0, 0)?;
-    Ok(())
 }
 
 /// Reads an identifier. Which ones name something isn't judged.

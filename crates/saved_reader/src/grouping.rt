@@ -2,7 +2,7 @@ ghost use Rattle.saved_reader.specs.Grouping.{group_at, prop_at, region_at};
 
 use crate::fault::ReadFault;
 use crate::fields::{get_coded, get_id, get_name, get_no_text};
-use crate::lists::{Spelled, get_filled_list, get_ids, get_no_ids};
+use crate::lists::{RECT_LIMIT, Spelled, get_filled_list, get_ids, get_no_ids};
 use block_records::{GroupRec, PropRec, RegionRec};
 use block_store::{GroupEntry, RegionEntry};
 use odb_fields::Get;
@@ -15,7 +15,7 @@ impl Spelled for RegionEntry {
     fn get(alloc: Global, input: &mut Get<'_>) -> Result<RegionEntry, ReadFault> {
         let name = get_name(alloc, input)?;
         let sort = get_coded(input)?;
-        let rects = get_filled_list(alloc, input, u32::MAX)?;
+        let rects = get_filled_list(alloc, input, RECT_LIMIT)?;
         let groups = get_no_ids(alloc, input)?;
         let props = get_no_ids(alloc, input)?;
         let kept = get_no_text(alloc, input)?;

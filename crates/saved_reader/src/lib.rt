@@ -27,10 +27,11 @@ pub mod physical;
 pub mod reading;
 pub mod saved;
 pub mod tables;
+pub mod technology;
 
 pub use fault::ReadFault;
 pub use reading::read_saved;
-pub use saved::Saved;
+pub use saved::{Saved, SavedTech};
 
 #[cfg(test)]
 mod tests;

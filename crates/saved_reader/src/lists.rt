@@ -2,16 +2,19 @@ ghost use Rattle.std.specs.Prelude.{Result};
 ghost use Rattle.odb_fields.specs.Reading.{Cursor};
 ghost use Rattle.saved_reader.specs.declared.fault.ReadFault.{ReadFault as Fault};
 ghost use Rattle.saved_reader.specs.Fields.{id_at};
-ghost use Rattle.saved_reader.specs.Parts.{filled_list_at, ids_at, list_at, no_list_at, option_at, rect_at, term_at};
+ghost use Rattle.saved_reader.specs.Parts.{filled_list_at, ids_at, list_at, no_list_at, option_at, rect_at, shape_at, term_at};
 ghost use Rattle.saved_reader.specs.Reading.{Reads, ReadsAs, many_at};
 
 use crate::fault::ReadFault;
 use crate::fields::{get_flag, get_id, get_number};
 use crate::parts::{get_rect, get_term};
 use block_store::Ids;
-use odb_base::{List, Rect};
+use odb_base::{LayerId, List, Rect, Shape};
 use odb_fields::Get;
 use std::alloc::Global;
+
+/// The greatest number of rectangles in one list, by themselves or on layers.
+pub const RECT_LIMIT: u32 = 1_000_000;
 
 /// What stands in the saved stream as an item of a list.
 pub trait Spelled: Drop {
@@ -35,6 +38,20 @@ impl Spelled for Rect {
 
     fn get(_alloc: Global, input: &mut Get<'_>) -> Result<Rect, ReadFault> {
         get_rect(input)
+    }
+}
+
+impl Spelled for Shape {
+    ghost reads = { shape_at };
+
+    #[tactic(auto, unfolding(crate::specs::Parts::shape_at))]
+    fn get(_alloc: Global, input: &mut Get<'_>) -> Result<Shape, ReadFault> {
+        let layer = get_id(input)?;
+        let rect = get_rect(input)?;
+        Ok(Shape {
+            layer: LayerId(layer),
+            rect,
+        })
     }
 }
 

@@ -1,40 +1,16 @@
-ghost use Rattle.saved_reader.specs.Library.{extent_at, library_at, master_at, mterm_at, shape_at, tech_at};
+ghost use Rattle.saved_reader.specs.Library.{extent_at, library_at, master_at, mterm_at};
 ghost use Rattle.saved_reader.specs.Reading.{Reads, ReadsAs};
 
 use crate::fault::ReadFault;
-use crate::fields::{
-    get_any_text, get_coded, get_coordinate, get_id, get_name, get_none, get_number, get_small,
-};
-use crate::lists::{Spelled, get_list};
-use crate::parts::get_rect;
-use library::{MASTER_LIMIT, MTerm, Master, Shape};
-use odb_base::{LayerId, List};
+use crate::fields::{get_any_text, get_coded, get_coordinate, get_id, get_name, get_small};
+use crate::lists::{RECT_LIMIT, Spelled, get_list};
+use library::{MASTER_LIMIT, MTerm, Master};
+use odb_base::List;
 use odb_fields::Get;
 use std::alloc::Global;
-use tech::Tech;
-
-// The greatest number of database units per micron.
-const UNIT_LIMIT: u32 = 100_000;
 
 // The greatest number of terminals of a master.
 const TERMINAL_LIMIT: u32 = 65_535;
-
-// The greatest number of shapes in one list.
-const SHAPE_LIMIT: u32 = 1_000_000;
-
-/// Reads a technology: its units, and lists of layers, vias and sites, which are empty as yet.
-#[tactic(auto, unfolding(crate::specs::Library::tech_at))]
-pub fn get_tech(alloc: Global, input: &mut Get<'_>) -> Result<Tech, ReadFault>
-    ensures { Reads result (tech_at input.old) input.new }
-{
-    let units = get_number(input, 0, UNIT_LIMIT)?;
-    get_none(input)?;
-    get_none(input)?;
-    get_none(input)?;
-    let mut tech = Tech::new(alloc);
-    tech.set_units(units);
-    Ok(tech)
-}
 
 /// Reads the masters of a library, in the order of their identifiers.
 #[tactic(auto, unfolding(crate::specs::Library::library_at))]
@@ -56,7 +32,7 @@ impl Spelled for Master {
         let site = get_id(input)?;
         let foreign = get_any_text(alloc, input)?;
         let terminals = get_list(alloc, input, TERMINAL_LIMIT)?;
-        let obstructions = get_list(alloc, input, SHAPE_LIMIT)?;
+        let obstructions = get_list(alloc, input, RECT_LIMIT)?;
         Ok(Master {
             name,
             class,
@@ -106,26 +82,12 @@ impl Spelled for MTerm {
         let name = get_name(alloc, input)?;
         let direction = get_coded(input)?;
         let usage = get_coded(input)?;
-        let shapes = get_list(alloc, input, SHAPE_LIMIT)?;
+        let shapes = get_list(alloc, input, RECT_LIMIT)?;
         Ok(MTerm {
             name,
             direction,
             usage,
             shapes,
-        })
-    }
-}
-
-impl Spelled for Shape {
-    ghost reads = { shape_at };
-
-    #[tactic(auto, unfolding(crate::specs::Library::shape_at))]
-    fn get(_alloc: Global, input: &mut Get<'_>) -> Result<Shape, ReadFault> {
-        let layer = get_id(input)?;
-        let rect = get_rect(input)?;
-        Ok(Shape {
-            layer: LayerId(layer),
-            rect,
         })
     }
 }

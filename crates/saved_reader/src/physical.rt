@@ -1,6 +1,6 @@
 ghost use Rattle.std.specs.Prelude.{◌≡◌};
 ghost use Rattle.saved_reader.specs.Fields.{distance_at, no_text_at};
-ghost use Rattle.saved_reader.specs.Physical.{blockage_at, layer_rect_at, may_step, most_sites as most_sites_of, pin_at, row_at, sites_at, track_at, wire_at};
+ghost use Rattle.saved_reader.specs.Physical.{blockage_at, may_step, most_sites as most_sites_of, pin_at, row_at, sites_at, track_at, wire_at};
 ghost use Rattle.saved_reader.specs.Reading.{Reads, ReadsAs};
 
 use crate::fault::ReadFault;
@@ -8,16 +8,13 @@ use crate::fields::{
     get_coded, get_coordinate, get_flag, get_from, get_id, get_name, get_no_text, get_number,
     get_text, in_limit,
 };
-use crate::lists::{Spelled, get_filled_list, get_list, get_no_ids};
-use crate::parts::{get_place, get_rect};
-use block_records::{BlockageRec, LayerRect, PinRec, RowRec, TrackRec, WireRec};
+use crate::lists::{RECT_LIMIT, Spelled, get_filled_list, get_list, get_no_ids};
+use crate::parts::get_place;
+use block_records::{BlockageRec, PinRec, RowRec, TrackRec, WireRec};
 use block_store::RowEntry;
 use odb_base::{RowForm, WireCode};
 use odb_fields::Get;
 use std::alloc::Global;
-
-// The greatest number of rectangles of a pin or a blockage.
-const RECT_LIMIT: u32 = 1_000_000;
 
 // The greatest number of sites of a row along an axis.
 const SITE_LIMIT: u32 = 1_000_000;
@@ -43,17 +40,6 @@ impl Spelled for PinRec {
             boxes,
             kept,
         })
-    }
-}
-
-impl Spelled for LayerRect {
-    ghost reads = { layer_rect_at };
-
-    #[tactic(auto, unfolding(crate::specs::Physical::layer_rect_at))]
-    fn get(_alloc: Global, input: &mut Get<'_>) -> Result<LayerRect, ReadFault> {
-        let layer = get_id(input)?;
-        let rect = get_rect(input)?;
-        Ok(LayerRect { layer, rect })
     }
 }
 

@@ -7,10 +7,11 @@ ghost use Rattle.saved_reader.specs.Saved.{Answers, block_at, built_at, header_a
 use crate::fault::ReadFault;
 use crate::fields::{get_no_text, get_word};
 use crate::lists::get_no_list;
-use crate::masters::{get_library, get_tech};
+use crate::masters::get_library;
 use crate::parts::get_absent;
 use crate::saved::Saved;
 use crate::tables::get_table;
+use crate::technology::get_tech;
 use block_records::{BlockageRec, Header, ITermRec, PinRec, PropRec, TrackRec, WireRec};
 use block_store::{
     BTermEntry, GroupEntry, InstEntry, NetEntry, PlainTable, RegionEntry, RowEntry, Tables,

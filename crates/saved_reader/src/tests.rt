@@ -6,16 +6,36 @@ use std::test::Fail;
 mod records;
 
 // The fields of a saved database in their order, each with a value that it may not have, or with nothing where it may
-// have any. There are a master with a terminal, an instance of it, a net that joins the instance's terminal and one of
-// the block, and two empty slots behind that net.
-const TECHNOLOGY: [(&[u8], &[u8]); 4] = [
+// have any. There are a layer, a via and a site, a master with a terminal and an obstruction, an instance of it, a net
+// that joins the instance's terminal and one of the block, and two empty slots behind that net.
+const TECHNOLOGY: [(&[u8], &[u8]); 24] = [
     (b"\xe8\x03\0\0", b"\xa1\x86\x01\0"),
-    (b"\0\0\0\0", b"\x01\0\0\0"),
-    (b"\0\0\0\0", b"\x01\0\0\0"),
-    (b"\0\0\0\0", b"\x01\0\0\0"),
+    (b"\x01\0\0\0", b"\x41\x42\x0f\0"),
+    (b"\x01\0\0\0m", b"\x01\0\0\0;"),
+    (b"\x01", b"\x06"),
+    (b"\x02", b"\x03"),
+    (b"\x0a\0\0\0", b"\x01\x94\x35\x77"),
+    (b"\xf6\xff\xff\xff", b"\xff\x6b\xca\x88"),
+    (b"\0\x94\x35\x77", b"\x01\x94\x35\x77"),
+    (b"\0\x6c\xca\x88", b"\xff\x6b\xca\x88"),
+    (b"\x01\0\0\0", b"\x41\x42\x0f\0"),
+    (b"\x01\0\0\0v", b"\x01\0\0\0N"),
+    (b"\x01", b"\x02"),
+    (b"\x01\0\0\0", b"\x41\x42\x0f\0"),
+    (b"\x01\0\0\0", b""),
+    (b"\xff\xff\xff\xff", b"\x01\x94\x35\x77"),
+    (b"\0\0\0\0", b"\xff\x6b\xca\x88"),
+    (b"\xff\xff\xff\xff", b"\xfe\xff\xff\xff"),
+    (b"\x02\0\0\0", b"\xff\xff\xff\xff"),
+    (b"\x01\0\0\0", b"\x41\x42\x0f\0"),
+    (b"\x01\0\0\0s", b"\0\0\0\0"),
+    (b"\x02", b"\x03"),
+    (b"\x07", b"\x08"),
+    (b"\x0a\0\0\0", b"\x01\x94\x35\x77"),
+    (b"\xf6\xff\xff\xff", b"\xff\x6b\xca\x88"),
 ];
 
-const LIBRARY: [(&[u8], &[u8]); 16] = [
+const LIBRARY: [(&[u8], &[u8]); 21] = [
     (b"\x01\0\0\0", b"\x41\x42\x0f\0"),
     (b"\x01\0\0\0M", b"\x01\0\0\0*"),
     (b"\x04\0\0\0CORE", b""),
@@ -31,7 +51,12 @@ const LIBRARY: [(&[u8], &[u8]); 16] = [
     (b"\x01", b"\x06"),
     (b"\x01", b"\x09"),
     (b"\0\0\0\0", b"\x41\x42\x0f\0"),
-    (b"\0\0\0\0", b"\x41\x42\x0f\0"),
+    (b"\x01\0\0\0", b"\x41\x42\x0f\0"),
+    (b"\x01\0\0\0", b""),
+    (b"\0\0\0\0", b"\x01\x94\x35\x77"),
+    (b"\0\0\0\0", b"\x01\x94\x35\x77"),
+    (b"\x01\0\0\0", b"\xff\xff\xff\xff"),
+    (b"\x01\0\0\0", b"\xff\xff\xff\xff"),
 ];
 
 const HEADER: [(&[u8], &[u8]); 6] = [
@@ -180,7 +205,7 @@ fn a_cut_at_every_length(rt: HostRuntime) -> Result<(), Fail> {
 fn each_field_is_judged(rt: HostRuntime) -> Result<(), Fail> {
     let alloc = rt.alloc();
     let mut judged = 0u32;
-    for number in 1..91 {
+    for number in 1..116 {
         let changed = stream_with(alloc, number)?;
         if !changed.any {
             judged = judged.saturating_add(1);
@@ -190,7 +215,7 @@ fn each_field_is_judged(rt: HostRuntime) -> Result<(), Fail> {
             );
         }
     }
-    assert_eq!(rt; judged, 67);
+    assert_eq!(rt; judged, 90);
     Ok(())
 }
 
@@ -198,7 +223,7 @@ fn each_field_is_judged(rt: HostRuntime) -> Result<(), Fail> {
 fn a_placement_is_at_fault_at_the_later_field(rt: HostRuntime) -> Result<(), Fail> {
     let alloc = rt.alloc();
     // The status of the instance is its fifth field.
-    let at = stream_with(alloc, 31)?.at;
+    let at = stream_with(alloc, 56)?.at;
     let mut whole = stream_with(alloc, 0)?;
     if let Some(status) = whole.bytes.get_mut(at as usize) {
         *status = 0;

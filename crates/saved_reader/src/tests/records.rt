@@ -3,9 +3,9 @@
 use super::Stream;
 use crate::fault::ReadFault;
 use crate::lists::Spelled;
-use block_records::{BlockageRec, LayerRect, PinRec, PropRec, TrackRec, WireRec};
+use block_records::{BlockageRec, PinRec, PropRec, TrackRec, WireRec};
 use block_store::{GroupEntry, RegionEntry, RowEntry};
-use odb_base::{Coded, Rect};
+use odb_base::{Coded, LayerId, Rect, Shape};
 use odb_fields::Get;
 use std::alloc::{AllocError, Global};
 use std::process::Abort;
@@ -197,8 +197,8 @@ fn pins_and_rows(rt: HostRuntime) -> Result<(), Fail> {
         (5, 2, 10)
     );
     assert_eq!(rt; (pin.place.y, pin.place.orientation.code()), (-10, 4));
-    let box_on_3 = LayerRect {
-        layer: 3,
+    let box_on_3 = Shape {
+        layer: LayerId(3),
         rect: Rect {
             xl: -1,
             yl: 0,

@@ -3,10 +3,11 @@ use Rattle.std.proofs.Common.{refl}
 use Rattle.odb_fields.specs.Fields.{i32_bytes, text_bytes, u8_bytes, u32_bytes}
 use Rattle.odb_save.specs.Examples.{empty_saved, one_gate_saved, one_net_saved, zeros}
 use Rattle.odb_save.specs.Kinds.{table_in}
-use Rattle.odb_save.specs.Library.{extent_bytes, master_bytes, mterm_bytes, tech_bytes}
+use Rattle.odb_save.specs.Library.{extent_bytes, master_bytes, mterm_bytes}
 use Rattle.odb_save.specs.Objects.{bterm_bytes, inst_bytes, iterm_bytes, net_bytes}
 use Rattle.odb_save.specs.Parts.{list_bytes, option_bytes, place_bytes, table_bytes, term_bytes}
 use Rattle.odb_save.specs.Save.{block_bytes, content_bytes, header_bytes, save_bytes}
+use Rattle.odb_save.specs.Technology.{tech_bytes}
 use Rattle.odb_save.proofs.laws.examples.Goals as goal
 
 pub returns-clause-empty : goal.returns-clause-empty

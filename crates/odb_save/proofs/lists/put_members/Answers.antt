@@ -1,4 +1,4 @@
-use Rattle.std.proofs.Common.{rules, ◌≡◌, List, [], ℕ}
+use Rattle.std.proofs.Common.{rules, ◌≡◌, []}
 use Rattle.block_store.specs.Lists.{list_at}
 use Rattle.odb_fields.specs.Fields.{u32_bytes}
 use Rattle.odb_save.proofs.Appending.{list_appended}

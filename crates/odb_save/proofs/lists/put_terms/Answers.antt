@@ -1,4 +1,4 @@
-use Rattle.std.proofs.Common.{rules, ◌≡◌, List, [], ℕ}
+use Rattle.std.proofs.Common.{rules, ◌≡◌, []}
 use Rattle.block_store.specs.declared.list_of.ListOf.TheVariants as list
 use Rattle.block_store.specs.Lists.{list_at}
 use Rattle.odb_save.specs.Parts.{term_bytes}

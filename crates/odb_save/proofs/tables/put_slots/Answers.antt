@@ -1,4 +1,4 @@
-use Rattle.std.proofs.Common.{◌≡◌, ◌+◌, ◌<◌, ap, ◌∙◌, arith}
+use Rattle.std.proofs.Common.{◌≡◌, ◌<◌, ap, ◌∙◌, arith}
 use Rattle.block_store.specs.Block.{slots_in}
 use Rattle.odb_save.specs.Kinds.{slots_behind}
 use Rattle.odb_save.proofs.Appending.{all_appended, one_appended}

@@ -1,0 +1,111 @@
+ghost use Rattle.std.specs.Prelude.{◌≡◌};
+ghost use Rattle.saved_reader.specs.Reading.{Reads};
+ghost use Rattle.saved_reader.specs.Technology.{is_no_orient as no_orient, layer_at, site_at, tech_at, via_at, via_name_at};
+
+use crate::fault::ReadFault;
+use crate::fields::{get_coded, get_coordinate, get_flag, get_name, get_number, get_small};
+use crate::lists::{RECT_LIMIT, Spelled, get_list};
+use crate::saved::SavedTech;
+use bitflags::Flags;
+use lawful_parts::UNIT_LIMIT;
+use odb_base::{Name, Orient, Worded};
+use odb_fields::Get;
+use std::alloc::Global;
+use tech::{LIST_LIMIT, Layer, Site, Symmetry, TechVia};
+
+/// Reads a technology: its units, and layers, vias and sites, each in the order of their identifiers.
+#[tactic(auto, unfolding(crate::specs::Technology::tech_at))]
+pub fn get_tech(alloc: Global, input: &mut Get<'_>) -> Result<SavedTech, ReadFault>
+    ensures { Reads result (tech_at input.old) input.new }
+{
+    let units = get_number(input, 0, UNIT_LIMIT)?;
+    let layers = get_list(alloc, input, LIST_LIMIT)?;
+    let vias = get_list(alloc, input, LIST_LIMIT)?;
+    let sites = get_list(alloc, input, LIST_LIMIT)?;
+    Ok(SavedTech {
+        units,
+        layers,
+        vias,
+        sites,
+    })
+}
+
+impl Spelled for Layer {
+    ghost reads = { layer_at };
+
+    #[tactic(auto, unfolding(crate::specs::Technology::layer_at))]
+    fn get(alloc: Global, input: &mut Get<'_>) -> Result<Layer, ReadFault> {
+        let name = get_name(alloc, input)?;
+        let sort = get_coded(input)?;
+        let direction = get_coded(input)?;
+        let pitch_x = get_coordinate(input)?;
+        let pitch_y = get_coordinate(input)?;
+        let width = get_coordinate(input)?;
+        let spacing = get_coordinate(input)?;
+        Ok(Layer {
+            name,
+            sort,
+            direction,
+            pitch_x,
+            pitch_y,
+            width,
+            spacing,
+        })
+    }
+}
+
+impl Spelled for TechVia {
+    ghost reads = { via_at };
+
+    #[tactic(auto, unfolding(crate::specs::Technology::via_at))]
+    fn get(alloc: Global, input: &mut Get<'_>) -> Result<TechVia, ReadFault> {
+        let name = get_via_name(alloc, input)?;
+        let default = get_flag(input)?;
+        let shapes = get_list(alloc, input, RECT_LIMIT)?;
+        Ok(TechVia {
+            name,
+            default,
+            shapes,
+        })
+    }
+}
+
+// Reads the name of a via, which isn't the word of an orientation.
+#[tactic(auto, unfolding(crate::specs::Technology::via_name_at))]
+fn get_via_name(alloc: Global, input: &mut Get<'_>) -> Result<Name, ReadFault>
+    ensures { Reads result (via_name_at input.old) input.new }
+{
+    let at = input.place();
+    let name = get_name(alloc, input)?;
+    if is_no_orient(name.bytes()) {
+        Ok(name)
+    } else {
+        Err(ReadFault::BadField { at })
+    }
+}
+
+fn is_no_orient(word: &[u8]) -> bool
+    ensures { result ≡ no_orient word.now }
+{
+    Orient::from_word(word).is_none()
+}
+
+impl Spelled for Site {
+    ghost reads = { site_at };
+
+    #[tactic(auto, unfolding(crate::specs::Technology::site_at))]
+    fn get(alloc: Global, input: &mut Get<'_>) -> Result<Site, ReadFault> {
+        let name = get_name(alloc, input)?;
+        let class = get_coded(input)?;
+        let symmetry = get_small(input, 7)?;
+        let width = get_coordinate(input)?;
+        let height = get_coordinate(input)?;
+        Ok(Site {
+            name,
+            class,
+            symmetry: Symmetry::from_bits_retain(symmetry),
+            width,
+            height,
+        })
+    }
+}
