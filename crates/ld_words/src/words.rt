@@ -1,4 +1,4 @@
-ghost use Rattle.std.specs.Prelude.{◌≡◌, ◌<◌, ◌≤◌, None, Some, Err, false, IfOk, IsErrOf, IsTrue, OnSome};
+ghost use Rattle.std.specs.Prelude.{◌≡◌, ◌<◌, ◌≤◌, [], None, Some, Err, false, IfOk, IsErrOf, IsTrue, OnSome};
 ghost use Rattle.std.specs.Option.{option_map};
 ghost use Rattle.std.specs.Result.{result_err};
 ghost use Rattle.odb_outside.specs.Outside.{Rose};
@@ -9,6 +9,22 @@ use crate::window::Window;
 use crate::word::{Word, WordFault};
 use odb_outside::Source;
 use std::alloc::{AllocError, Global};
+
+/// The memory in which a text is read, taken before its source is at hand.
+#[derive(Drop)]
+pub struct Room {
+    window: Window,
+    ghost empty: { window ≡ [] },
+}
+
+impl Room {
+    /// Room for one text.
+    pub fn new(alloc: Global) -> Result<Room, AllocError> {
+        Ok(Room {
+            window: Window::new(alloc)?,
+        })
+    }
+}
 
 /// The words of a text, read from a source one after the other.
 #[derive(Drop)]
@@ -23,7 +39,8 @@ impl<S: Source + Drop> Words<S> {
     ghost use Rattle.ld_words.specs.Reading.{words_of};
     ghost use Rattle.ld_words.specs.Words.{GivesWord, fault_of, line_of, reading_left, room_of, source_of};
 
-    /// Stands before the first word of the bytes that the source has left, on line 1.
+    /// Stands before the first word of the bytes that the source has left, on line 1. For want of memory the source is
+    /// dropped; [`Words::in_room`] wants none.
     pub fn new(alloc: Global, source: S) -> Result<Words<S>, AllocError>
         requires { IsTrue (S.ready source) }
         ensures words { IfOk result
@@ -32,16 +49,29 @@ impl<S: Source + Drop> Words<S> {
         ensures fault { IfOk result (λ words. fault_of words ≡ None) }
         ensures source { IfOk result (λ words. source_of words ≡ source) }
     {
-        Ok(Words {
+        let room = Room::new(alloc)?;
+        Ok(Words::in_room(alloc, room, source))
+    }
+
+    /// The same in memory that was taken before.
+    pub fn in_room(alloc: Global, room: Room, source: S) -> Words<S>
+        requires { IsTrue (S.ready source) }
+        ensures words { reading_left result ≡ option_map words_of (S.left source) }
+        ensures line { line_of result ≡ 1 }
+        ensures fault { fault_of result ≡ None }
+        ensures source { source_of result ≡ source }
+    {
+        let Room { window } = room;
+        Words {
             input: Input {
                 source,
-                window: Window::new(alloc)?,
+                window,
                 line: 1,
                 taken: 0,
             },
             alloc,
             fault: None,
-        })
+        }
     }
 
     /// The next word, or `None` at the end of the text. A fault is answered from then on.

@@ -1,4 +1,5 @@
 ghost use Rattle.std.specs.Prelude.{◌≡◌};
+ghost use Rattle.lef_reader.specs.declared.fault.LefFault.TheVariants.{Memory as no_memory};
 ghost use Rattle.lef_reader.specs.declared.fault.Stop.TheVariants.{Memory};
 
 use ld_words::WordFault;
@@ -35,6 +36,14 @@ pub enum LefFault {
     /// There is no memory for what is read.
     #[error("out of memory")]
     Memory,
+}
+
+impl From<AllocError> for LefFault {
+    ghost from_gives = { λ _ e. e ≡ no_memory };
+
+    fn from(_: AllocError) -> Self {
+        LefFault::Memory
+    }
 }
 
 /// Why a word stops the reading.

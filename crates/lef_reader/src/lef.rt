@@ -35,7 +35,7 @@ pub fn read_lef<S: Source + Drop>(alloc: Global, words: &mut Words<S>) -> Result
     ensures ready { is_read_fault (fault_of words.new) ≡ false → IsTrue (S.ready (source_of words.new)) }
     ensures rest { S.rest (source_of words.new) ≡ S.rest (source_of words.old) }
 {
-    let mut reader = Reader::new(alloc);
+    let mut reader = Reader::new(alloc)?;
     'reading: while !reader.is_done() {
         match words.next() {
             Ok(Some(word)) => reader = with_word(reader, alloc, word)?,

@@ -16,6 +16,7 @@
 pub mod fault;
 pub mod laws;
 pub mod lef;
+mod open_section;
 mod reader;
 
 pub use fault::{LefFault, LefKind};

@@ -2,6 +2,7 @@ ghost use Rattle.std.specs.Prelude.{◌≡◌, Err, IfOk, Ok};
 ghost use Rattle.lef_reader.specs.Reading.{Gives, at, begun, between, by_fit, closed_of, closing, counted, ended, held, in_form, in_passing, is_done, last_places, may_end, misfit, moved, needs_layer, start, step_of, taken, tree_of, whole};
 
 use crate::fault::{LefKind, Stop};
+use crate::open_section::OpenSection;
 use lef_drafts::{Closed, Draft};
 use lef_forms::{Extent, Fit, Form, Keyword, Passed, Passing, Place, Statement, due};
 use lef_tree::{LefItem, LefTree};
@@ -16,7 +17,7 @@ pub struct SoFar {
     pub items: List<LefItem>,
     /// How many parts were passed over or left out.
     pub passed: u64,
-    pub draft: Draft,
+    pub draft: OpenSection,
 }
 
 /// Which word is due.
@@ -47,17 +48,16 @@ pub struct Reader {
 
 impl Reader {
     /// Before the first word of a text.
-    pub fn new(alloc: Global) -> Reader
-        ensures { result ≡ start }
+    pub fn new(alloc: Global) -> Result<Reader, AllocError>
+        ensures { IfOk result (λ reader. reader ≡ start) }
     {
-        Reader {
-            so_far: SoFar {
-                items: List::new(alloc),
-                passed: 0,
-                draft: Draft::Top,
-            },
-            mode: Mode::Between,
-        }
+        let draft = OpenSection::new(alloc)?;
+        let so_far = SoFar {
+            items: List::new(alloc),
+            passed: 0,
+            draft,
+        };
+        Ok(so_far.at(Mode::Between))
     }
 
     /// Whether the text has ended, and no more word is due.
@@ -72,7 +72,7 @@ impl Reader {
         ensures { result ≡ may_end self.now }
     {
         matches!(self.mode, Mode::Done)
-            || matches!(self.mode, Mode::Between) && matches!(self.so_far.draft, Draft::Top)
+            || matches!(self.mode, Mode::Between) && matches!(self.so_far.draft.draft(), Draft::Top)
     }
 
     /// The items that were read, and how many parts were passed over.
@@ -136,7 +136,7 @@ impl SoFar {
         if Keyword::Semicolon.is(word) {
             return self.refused(Stop::Fault(LefKind::Unexpected));
         }
-        let form = self.draft.section().form(word);
+        let form = self.draft.draft().section().form(word);
         self.begun(alloc, form)
     }
 
@@ -158,7 +158,7 @@ impl SoFar {
     fn taken(self, alloc: Global, statement: Statement) -> Result<Reader, Stop>
         ensures { Gives result (taken self statement) }
     {
-        if needs_layer(statement) && self.draft.lacks_layer() {
+        if needs_layer(statement) && self.draft.draft().lacks_layer() {
             return self.refused(Stop::Fault(LefKind::Unexpected));
         }
         let values = Values::new(alloc);
@@ -202,9 +202,9 @@ impl SoFar {
         let SoFar {
             items,
             passed,
-            draft,
+            mut draft,
         } = self;
-        let draft = draft.set(alloc, statement, values)?;
+        draft.set(alloc, statement, values)?;
         Ok(SoFar {
             items,
             passed,
@@ -301,7 +301,7 @@ impl SoFar {
     fn ended(self) -> Result<Reader, Stop>
         ensures { Gives result (ended self) }
     {
-        if self.draft.ends_bare() {
+        if self.draft.draft().ends_bare() {
             self.closed()
         } else {
             Ok(self.at(Mode::Closing))
@@ -313,7 +313,7 @@ impl SoFar {
     fn closing(self, word: &[u8]) -> Result<Reader, Stop>
         ensures { Gives result (closing self word.now) }
     {
-        if self.draft.closes(word) {
+        if self.draft.draft().closes(word) {
             self.closed()
         } else {
             self.refused(Stop::Fault(LefKind::Unexpected))
@@ -328,18 +328,22 @@ impl SoFar {
         let SoFar {
             mut items,
             passed,
-            draft,
+            mut draft,
         } = self;
-        match draft.close()? {
-            Closed::Text => Ok(at_top(items, passed).at(Mode::Done)),
-            Closed::Nothing => Ok(at_top(items, passed).at(Mode::Between)),
+        match draft.replace(Draft::Top).close()? {
+            Closed::Text => Ok(held(items, passed, draft).at(Mode::Done)),
+            Closed::Nothing => Ok(held(items, passed, draft).at(Mode::Between)),
             Closed::Item(item) => {
                 items.push(item)?;
-                Ok(at_top(items, passed).at(Mode::Between))
+                Ok(held(items, passed, draft).at(Mode::Between))
             }
-            Closed::Inner(draft) => Ok(with_draft(items, passed, draft).at(Mode::Between)),
-            Closed::LeftOut(draft) => {
-                Ok(with_draft(items, passed, draft).counted().at(Mode::Between))
+            Closed::Inner(inner) => {
+                drop(draft.replace(inner));
+                Ok(held(items, passed, draft).at(Mode::Between))
+            }
+            Closed::LeftOut(inner) => {
+                drop(draft.replace(inner));
+                Ok(held(items, passed, draft).counted().at(Mode::Between))
             }
         }
     }
@@ -352,19 +356,8 @@ fn needs_layer(statement: Statement) -> bool
     matches!(statement, Statement::Rect)
 }
 
-// At the top, with these items and so many parts that were passed over.
-fn at_top(items: List<LefItem>, passed: u64) -> SoFar
-    ensures { result ≡ held items passed Draft.Top }
-{
-    SoFar {
-        items,
-        passed,
-        draft: Draft::Top,
-    }
-}
-
-// In a section.
-fn with_draft(items: List<LefItem>, passed: u64, draft: Draft) -> SoFar
+// With these items, so many parts that were passed over, and this section open.
+fn held(items: List<LefItem>, passed: u64, draft: OpenSection) -> SoFar
     ensures { result ≡ held items passed draft }
 {
     SoFar {

@@ -11,7 +11,7 @@ pub returns-in_err-reader-in-Ok-Some-clause-answer : goal.returns-in_err-reader-
 returns-in_err-reader-in-Ok-Some-clause-answer g c =
     let whole = option_map lef_of (reading_left c.args.words.now) in
     let left = option_map (lef_from c.reading.reader) (reading_left c.reading.words) in
-    let p = err_from_is_err_and c.from_residual.result c.from_residual.ensures.1 in
+    let p = err_from_is_err_and c.from_residual-in_err-reader-in-Ok-Some.result c.from_residual-in_err-reader-in-Ok-Some.ensures.1 in
     let due : is_done c.reading.reader ≡ false = grind arith in
     let told = rw c.in-Ok-Some.field-0-is at c.in-Ok-Some.ensures.words in
     let why = c.in_err-reader-in-Ok-Some.field-0.0 in
@@ -46,7 +46,7 @@ returns-in-Err-clause-kept g c = rw c.stopped.ensures (fault-kept (fault_of c.ne
 
 pub returns-in_err-reader-in-Ok-Some-clause-kept : goal.returns-in_err-reader-in-Ok-Some-clause-kept
 returns-in_err-reader-in-Ok-Some-clause-kept g c =
-    let p = err_from_is_err_and c.from_residual.result c.from_residual.ensures.1 in
+    let p = err_from_is_err_and c.from_residual-in_err-reader-in-Ok-Some.result c.from_residual-in_err-reader-in-Ok-Some.ensures.1 in
     let word = c.in-Ok-Some.word in
     rw (p.1, p.2) (stop-kept (fault_of c.next.new.self) word.line c.in_err-reader-in-Ok-Some.field-0.0 (step_of c.reading.reader word.bytes) c.in-Ok-Some.ensures.fault c.in_err-reader-in-Ok-Some.ensures)
 
