@@ -1,0 +1,9 @@
+pub mod Entering
+pub mod Faults
+pub mod NameLists
+pub mod OneItem
+pub mod Ranges
+pub mod Runs
+pub mod Second
+pub mod Standing
+pub mod Walked

@@ -1,0 +1,6 @@
+use Rattle.std.proofs.Common.{◌≡◌, drop}
+use Rattle.lef_build.specs.Causes.{unknown_layers}
+use Rattle.lef_build.proofs.builder.Builder.ask_layers.Given as goal
+
+abbrev pub invariant-loop-shape : goal.invariant-loop-shape
+invariant-loop-shape l = unknown_layers l.self.tech (drop l.shape-index l.shapes) ≡ unknown_layers l.self.tech l.shapes
