@@ -1,12 +1,14 @@
 -- How the answers of a session, of a file that is written, and of one that is read, are those of the machine.
-use Rattle.std.proofs.Common.{◌≡◌, ◌<◌, ◌≤◌, ◌++◌, ◌||◌, Bool, true, false, List, [], ◌∷◌, ℕ, Option, None, Some, Result, Ok, Err, length, nat_lt, refl, sym, ap, subst, ◌∙◌}
+use Rattle.std.proofs.Common.{◌≡◌, ◌<◌, ◌≤◌, ◌++◌, ◌||◌, Bool, true, false, List, [], ◌∷◌, ℕ, Option, None, Some, Ok, Err, length, nat_lt, refl, sym, ap, subst, ◌∙◌}
 use Rattle.std.proofs.lemmas.Bool.{le-ltb, lt-ltb}
 use Rattle.std.proofs.lemmas.List.{append_assoc}
 use Rattle.std.proofs.lemmas.Option.{none-some}
 use Rattle.std.proofs.lemmas.List.Folds.{list_any-append}
-use Rattle.odb_outside.specs.Files.{File, file_of, with_file}
+use Rattle.odb_outside.specs.Files.{File, file_of}
 use Rattle.odb_outside.specs.Shelves.{KeepsFiles, Told, files_told}
 use Rattle.block_store.specs.Database.{Database}
+use Rattle.lef_files.specs.Files as lef_file
+use Rattle.lef_files.specs.declared.outcome.LefFileRead.{LefFileRead}
 use Rattle.odb_save.specs.Loading.{Loads}
 use Rattle.odb_save.specs.Save.{save_bytes}
 use Rattle.odb_save.specs.declared.load_fault.LoadFault.{LoadFault}
@@ -15,7 +17,7 @@ use Rattle.shelf_files.specs.Whole.{IsFileRead, Reads, Writes}
 use Rattle.shelf_files.specs.declared.reading.FileRead.{FileRead}
 use Rattle.shelf_files.specs.declared.reading.FileRead.TheVariants as read
 use Rattle.shelf_files.specs.declared.reading.TheConstants.{FILE_LIMIT}
-use Rattle.odb_run.specs.Answering.{Answered, AreAnswers, IsLoadFrom, IsLoadOf, IsLoadReply, IsLoadUnless, Machine, has_refusal, in_state, machine, machine_after, replies_of, save_to_answer}
+use Rattle.odb_run.specs.Answering.{Answered, AreAnswers, IsLoadFrom, IsLoadOf, IsLoadReply, IsLoadUnless, Machine, has_refusal, in_state, lef_answer, lef_file_answer, machine, machine_after, read_lef_answer, replies_of, save_to_answer}
 use Rattle.odb_run.specs.Journal.{LeadsBack, eco_of}
 use Rattle.odb_run.specs.Loaded.{GivesInSession, IsReadReply}
 use Rattle.odb_run.specs.Machine.{Answer, Kept, State}
@@ -69,6 +71,16 @@ module _ (s new : State) (before after : List ℕ) (any_refused : Bool) where
   loaded_gives None left name given none reads keeps gives = tt
   loaded_gives (Some was) left name given none reads keeps gives =
       rw keeps (subst (λ (eco : Option Kept). Gives (IsLoadReply (machine s was.files) name eco) new was.files before after any_refused) (sym none) (read_gives was.files (file_of name was.files) given reads (gives was.files)))
+
+  -- a LEF file that was read
+  lef_gives : (files : List File) (found : Option (List ℕ)) (given : LefFileRead) → lef_file.IsFileRead found given → Gives (λ a. a ≡ lef_answer (machine s files) given) new files before after any_refused → Gives (λ a. a ≡ lef_file_answer (machine s files) found) new files before after any_refused
+  lef_gives files None given reads gives = subst (λ (r : LefFileRead). Gives (λ a. a ≡ lef_answer (machine s files) r) new files before after any_refused) reads gives
+  lef_gives files (Some bytes) given reads gives = subst (λ (r : LefFileRead). Gives (λ a. a ≡ lef_answer (machine s files) r) new files before after any_refused) reads gives
+
+  pub lef_told : (was left : Option Told) (name : List ℕ) (given : LefFileRead) → s.eco ≡ None → lef_file.Reads was name given → KeepsFiles was left → GivesInSession (λ m a. a ≡ lef_answer m given) s new before after any_refused → GivesTold (λ m a. a ≡ read_lef_answer m name m.state.eco) s new (files_told was) (files_told left) before after any_refused
+  lef_told None left name given none reads keeps gives = tt
+  lef_told (Some was) left name given none reads keeps gives =
+      rw keeps (subst (λ (eco : Option Kept). Gives (λ a. a ≡ read_lef_answer (machine s was.files) name eco) new was.files before after any_refused) (sym none) (lef_gives was.files (file_of name was.files) given reads (gives was.files)))
 
 -- bytes that were loaded
 pub bytes_loaded : (s new : State) (bytes before after : List ℕ) → Puts s bytes (Ok tt) new → after ≡ before ++ number_text (length bytes) → GivesInSession (λ m a. IsLoadOf m bytes a) s new before after false

@@ -1,5 +1,5 @@
 -- The machine answers a line, and so lines, in one way.
-use Rattle.std.proofs.Common.{◌≡◌, Bool, true, false, List, [], ◌∷◌, ℕ, Option, None, Some, Result, Ok, Err, length, nat_lt, refl, sym, ap, subst, ◌∙◌}
+use Rattle.std.proofs.Common.{◌≡◌, Bool, true, false, List, [], ◌∷◌, ℕ, Option, None, Some, Ok, Err, length, nat_lt, refl, sym, ap, subst, ◌∙◌}
 use Rattle.odb_outside.specs.Files.{file_of}
 use Rattle.odb_save.proofs.Loads.{one_answer}
 use Rattle.script_words.specs.Commands.{Request, request_of}
@@ -29,7 +29,11 @@ same-reply m file (Some kept) a b one other = one ∙ sym other
 
 same-command : (m : Machine) (c : Command) (a b : Answered) → IsCommandAnswer m c a → IsCommandAnswer m c b → a ≡ b
 same-command m (command.Edit edit) a b one other = one ∙ sym other
+same-command m (command.Units n) a b one other = one ∙ sym other
+same-command m (command.Layer layer) a b one other = one ∙ sym other
+same-command m (command.Site site) a b one other = one ∙ sym other
 same-command m (command.Master master) a b one other = one ∙ sym other
+same-command m (command.ReadLef file) a b one other = one ∙ sym other
 same-command m (command.Find k name) a b one other = one ∙ sym other
 same-command m (command.List k) a b one other = one ∙ sym other
 same-command m (command.Free k) a b one other = one ∙ sym other

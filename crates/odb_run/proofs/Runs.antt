@@ -8,9 +8,9 @@ use Rattle.odb_outside.specs.Files.{File}
 use Rattle.odb_outside.specs.Writing.{Grows, GrowsByPrefix}
 use Rattle.odb_run.proofs.Answering.{after-append, answers-append, refusal-append, replies-append}
 use Rattle.odb_run.proofs.LineLemmas.{lines-first, lines-last}
-use Rattle.odb_run.specs.Answering.{Answered, IsAnswer, has_refusal, machine_after, replies_of}
+use Rattle.odb_run.specs.Answering.{IsAnswer, has_refusal, machine_after, replies_of}
 use Rattle.odb_run.specs.Lines.{has_line_end, lines_of}
-use Rattle.odb_run.specs.Running.{EndsLast, Finishes, FinishesPart, GivesTold, Goes, IsFinished, IsGone, IsLast, IsPart, IsReplied, Leads, Replied, Running, WritesOn, WritesSome, machine_of}
+use Rattle.odb_run.specs.Running.{GivesTold, Goes, IsFinished, IsGone, IsLast, IsPart, IsReplied, Leads, Replied, Running, WritesOn, WritesSome, machine_of}
 use Rattle.odb_run.specs.Told.{IfTold, WhereTold}
 
 -- nothing was written

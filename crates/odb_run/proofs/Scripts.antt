@@ -3,16 +3,15 @@ use Rattle.std.proofs.Common.{◌≡◌, ◌+◌, ◌<◌, ◌≤◌, ◌^◌, �
 use Rattle.std.specs.Bool.{⊤}
 use Rattle.odb_outside.specs.Files.{File}
 use Rattle.odb_outside.specs.Reading.{Reads}
-use Rattle.odb_outside.specs.Writing.{Grows, GrowsByPrefix}
 use Rattle.odb_outside.specs.declared.fault.Failed.{Failed}
 use Rattle.odb_run.proofs.Answering.{after-append, answers-append, refusal-append, replies-append}
-use Rattle.odb_run.proofs.Runs.{gone_none, gone_part, gone_then, leads_grows, leads_more, leads_prefix, prefix_none}
+use Rattle.odb_run.proofs.Runs.{gone_none, gone_then, leads_grows, leads_more, leads_prefix, prefix_none}
 use Rattle.odb_run.specs.Answering.{Answered, AreAnswers, has_refusal, machine, machine_after, replies_of}
 use Rattle.odb_run.specs.Headline.{Ran, RanInPart, RunsToldAs}
 use Rattle.odb_run.specs.Lines.{lines_of}
 use Rattle.odb_run.specs.Machine.{State}
-use Rattle.odb_run.specs.Running.{Counts, Finishes, FinishesPart, Goes, IsFinished, IsGone, IsPart, IsWithin, Leads, Running, Within, WritesSome, ended, first_run, machine_of, status_of}
-use Rattle.odb_run.specs.Told.{IfTold, WhereTold}
+use Rattle.odb_run.specs.Running.{Counts, Finishes, FinishesPart, Goes, IsFinished, IsPart, IsWithin, Leads, Running, Within, WritesSome, ended, first_run, status_of}
+use Rattle.odb_run.specs.Told.{IfTold}
 use Rattle.odb_run.specs.declared.status.Status.TheVariants as status
 use Rattle.odb_run.specs.declared.stop.Stop.{Stop}
 use Rattle.odb_run.specs.declared.stop.Stop.TheVariants as stop

@@ -3,7 +3,14 @@ use Rattle.std.specs.Prelude.{◌≡◌, Bool, true, false, List, [], ◌∷◌,
 use Rattle.std.specs.List.{flat_map, list_any}
 use Rattle.odb_base.specs.declared.eco_state.EcoState.TheVariants as state
 use Rattle.odb_outside.specs.Files.{File, file_of, with_file}
+use Rattle.edit_words.specs.declared.part.TechPart.TheVariants as part
 use Rattle.block_store.specs.Database.{Database}
+use Rattle.lef_build.specs.Building.{built_of}
+use Rattle.lef_build.specs.declared.fault.BuildFault.{BuildFault}
+use Rattle.lef_build.specs.declared.parts.Parts.{Parts}
+use Rattle.lef_files.specs.Texts.{lef_file_of}
+use Rattle.lef_files.specs.declared.outcome.LefFileRead.{LefFileRead}
+use Rattle.lef_files.specs.declared.outcome.LefFileRead.TheVariants as lef_read
 use Rattle.odb_save.specs.Loading.{Loads}
 use Rattle.odb_save.specs.Save.{save_bytes}
 use Rattle.odb_save.specs.declared.load_fault.LoadFault.{LoadFault}
@@ -12,9 +19,10 @@ use Rattle.script_words.specs.Commands.{Request, request_of}
 use Rattle.script_words.specs.declared.command_words.Command.{Command}
 use Rattle.script_words.specs.declared.command_words.Command.TheVariants as command
 use Rattle.shelf_files.specs.declared.reading.TheConstants.{FILE_LIMIT}
+use Rattle.tech_parts.specs.Adding.{added_by, with_parts}
 use Rattle.odb_run.specs.declared.run.TheConstants.{LINE_LIMIT}
-use Rattle.odb_run.specs.Machine.{Answer, Kept, State, accepted, begin_answer, edit_answer, master_answer, refused, report_answer, save_answer, unanswered, undo_answer}
-use Rattle.odb_run.specs.Replies.{fault_text, load_fault_text, long_file_text, long_line_text, no_file_text, number_text, wrong_state_text}
+use Rattle.odb_run.specs.Machine.{Answer, Kept, State, accepted, begin_answer, edit_answer, part_answer, parts_answer, refused, report_answer, save_answer, unanswered, undo_answer}
+use Rattle.odb_run.specs.Replies.{added_text, build_text, fault_text, lef_text, load_fault_text, long_file_text, long_line_text, no_file_text, number_text, wrong_state_text}
 
 -- the machine: its state, and the files by name
 pub record Machine : Type 0 where
@@ -72,9 +80,34 @@ abbrev pub IsLoadReply : Machine → List ℕ → Option Kept → Answered → T
 IsLoadReply m file None a = IsLoadFrom m (file_of file m.files) a
 IsLoadReply m file (Some kept) a = a ≡ denied m (wrong_state_text state.Open)
 
+-- the answer by the parts that a LEF text has, which are entered, or by why it has none
+abbrev pub built_answer : Machine → Result Parts BuildFault → Answered
+built_answer m (Ok p) =
+    in_state m (parts_answer m.state (λ d. added_text p.passed (added_by p.parts m.state.database d)) (with_parts 0 p.parts m.state.database))
+built_answer m (Err why) = denied m (build_text why)
+
+-- the answer by what reading the file came to
+abbrev pub lef_answer : Machine → LefFileRead → Answered
+lef_answer m (lef_read.Tree tree) = built_answer m (built_of m.state.database.tech m.state.database.library tree)
+lef_answer m lef_read.NoFile = denied m no_file_text
+lef_answer m (lef_read.Refused line kind) = denied m (lef_text line kind)
+
+abbrev pub lef_file_answer : Machine → Option (List ℕ) → Answered
+lef_file_answer m None = lef_answer m lef_read.NoFile
+lef_file_answer m (Some bytes) = lef_answer m (lef_file_of bytes)
+
+-- `read_lef FILE` enters what the LEF text of the file holds, where no ECO stands
+abbrev pub read_lef_answer : Machine → List ℕ → Option Kept → Answered
+read_lef_answer m file None = lef_file_answer m (file_of file m.files)
+read_lef_answer m file (Some kept) = denied m (wrong_state_text state.Open)
+
 abbrev pub IsCommandAnswer : Machine → Command → Answered → Type 0
 IsCommandAnswer m (command.Edit edit) a = a ≡ in_state m (edit_answer m.state edit)
-IsCommandAnswer m (command.Master master) a = a ≡ in_state m (master_answer m.state master m.state.eco)
+IsCommandAnswer m (command.Units n) a = a ≡ in_state m (part_answer m.state (part.Units n) m.state.eco)
+IsCommandAnswer m (command.Layer layer) a = a ≡ in_state m (part_answer m.state (part.Layer layer) m.state.eco)
+IsCommandAnswer m (command.Site site) a = a ≡ in_state m (part_answer m.state (part.Site site) m.state.eco)
+IsCommandAnswer m (command.Master master) a = a ≡ in_state m (part_answer m.state (part.Master master) m.state.eco)
+IsCommandAnswer m (command.ReadLef file) a = a ≡ read_lef_answer m file m.state.eco
 IsCommandAnswer m (command.Find k name) a = a ≡ in_state m (report_answer m.state (query.Find k name))
 IsCommandAnswer m (command.List k) a = a ≡ in_state m (report_answer m.state (query.List k))
 IsCommandAnswer m (command.Free k) a = a ≡ in_state m (report_answer m.state (query.Free k))

@@ -7,7 +7,6 @@ pub mod Loaded
 pub mod Machine
 pub mod Noted
 pub mod Options
-pub mod Parts
 pub mod Replies
 pub mod Running
 pub mod Sessions

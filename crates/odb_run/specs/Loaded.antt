@@ -6,7 +6,7 @@ use Rattle.script_words.specs.declared.command_words.Command.{Command}
 use Rattle.script_words.specs.declared.command_words.Command.TheVariants as command
 use Rattle.shelf_files.specs.declared.reading.FileRead.{FileRead}
 use Rattle.shelf_files.specs.declared.reading.FileRead.TheVariants as read
-use Rattle.odb_run.specs.Answering.{Answered, IsCommandAnswer, IsLoadOf, Machine, denied, machine}
+use Rattle.odb_run.specs.Answering.{Answered, IsLoadOf, Machine, denied, machine}
 use Rattle.odb_run.specs.Machine.{State}
 use Rattle.odb_run.specs.Replies.{long_file_text, no_file_text}
 use Rattle.odb_run.specs.Running.{Gives}
@@ -19,6 +19,7 @@ GivesInSession Is old new before after refused = (files : List File) → Gives (
 abbrev pub TouchesNoFile : Command → Type 0
 TouchesNoFile (command.Save file) = ⊥
 TouchesNoFile (command.Load file) = ⊥
+TouchesNoFile (command.ReadLef file) = ⊥
 TouchesNoFile other = Unit {0}
 
 -- what is answered where reading the file gave this

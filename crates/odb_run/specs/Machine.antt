@@ -1,10 +1,10 @@
 -- The copying machine, apart from its files. It keeps a whole copy of the database while an ECO stands, and undo
 -- puts back that very copy.
-use Rattle.std.specs.Prelude.{Bool, true, false, ◌+◌, List, [], ◌∷◌, ◌++◌, ℕ, Option, None, Some, Result, Ok, Err, length, option_map}
+use Rattle.std.specs.Prelude.{Bool, true, false, List, [], ◌∷◌, ◌++◌, ℕ, Option, None, Some, Result, Ok, Err, length, option_map}
 use Rattle.odb_base.specs.declared.eco_state.EcoState.{EcoState}
 use Rattle.odb_base.specs.declared.eco_state.EcoState.TheVariants as state
-use Rattle.library.specs.declared.master.Master.{Master}
 use Rattle.edit_words.specs.declared.edit.Edit.{Edit}
+use Rattle.edit_words.specs.declared.part.TechPart.{TechPart}
 use Rattle.edit_words.specs.declared.refusal.Refusal.{Refusal}
 use Rattle.edit_words.specs.declared.step.Step.{Step}
 use Rattle.block_store.specs.Database.{Database, empty_database}
@@ -14,9 +14,9 @@ use Rattle.odb_save.specs.Save.{save_bytes}
 use Rattle.reports.specs.Reports.{report_of}
 use Rattle.reports.specs.declared.query.Query.{Query}
 use Rattle.reports.specs.declared.query.ReportFault.{ReportFault}
+use Rattle.tech_parts.specs.Adding.{last_id, with_parts}
+use Rattle.tech_parts.specs.declared.fault.PartFault.{PartFault}
 use Rattle.odb_run.specs.declared.outcome.Outcome.{Outcome}
-use Rattle.odb_run.specs.declared.parts.PartFault.{PartFault}
-use Rattle.odb_run.specs.Parts.{part_fault}
 use Rattle.odb_run.specs.Replies.{number_text, ok_text, outcome_text, part_text, refusal_text, report_fault_text, saved_text, wrong_state_text}
 
 -- what stands with an ECO: the copy that was kept, and the steps that were accepted since
@@ -83,18 +83,19 @@ plan_in s edit = plan s.database.library s.database.cap s.database.block edit
 unfoldable pub edit_answer : State → Edit → Answer
 edit_answer s edit = edit_answer_by s (plan_in s edit)
 
--- the database with one more master
-abbrev pub with_master : Master → Database → Database
-with_master m d = record d { library = d.library ++ m ∷ [] }
+-- the answer by what entering parts came to
+abbrev pub parts_answer : State → (Database → List ℕ) → Result Database PartFault → Answer
+parts_answer s text (Ok d) = accepted (record s { database = d }) (text d)
+parts_answer s text (Err why) = refused s (part_text why)
 
-abbrev pub master_answer_by : State → Master → Option PartFault → Answer
-master_answer_by s m (Some fault) = refused s (part_text fault)
-master_answer_by s m None = accepted (record s { database = with_master m s.database }) (number_text (length s.database.library + 1))
+-- the text of an accepted part: its identifier
+abbrev pub entered_text : TechPart → Database → List ℕ
+entered_text p d = number_text (last_id d p)
 
--- `master` enters a master into the library where no ECO stands
-unfoldable pub master_answer : State → Master → Option Kept → Answer
-master_answer s m None = master_answer_by s m (part_fault s.database m)
-master_answer s m (Some kept) = refused s (wrong_state_text state.Open)
+-- `units`, `layer`, `site` and `master` enter a part where no ECO stands
+unfoldable pub part_answer : State → TechPart → Option Kept → Answer
+part_answer s p None = parts_answer s (entered_text p) (with_parts 0 (p ∷ []) s.database)
+part_answer s p (Some kept) = refused s (wrong_state_text state.Open)
 
 abbrev pub report_answer_by : State → Result (List ℕ) ReportFault → Answer
 report_answer_by s (Ok text) = accepted s text

@@ -4,6 +4,10 @@ use Rattle.odb_base.specs.EcoState.{eco_state_word}
 use Rattle.odb_base.specs.Kind.{kind_word}
 use Rattle.odb_base.specs.declared.codes.kind.Kind.{Kind}
 use Rattle.odb_base.specs.declared.eco_state.EcoState.{EcoState}
+use Rattle.lef_build.specs.declared.fault.BuildFault.{BuildFault}
+use Rattle.lef_build.specs.declared.fault.BuildFault.TheVariants as build
+use Rattle.lef_files.specs.declared.outcome.LefFileFault.{LefFileFault}
+use Rattle.lef_files.specs.declared.outcome.LefFileFault.TheVariants as lef
 use Rattle.odb_save.specs.declared.load_fault.LoadFault.{LoadFault}
 use Rattle.odb_save.specs.declared.load_fault.LoadFault.TheVariants as load
 use Rattle.edit_words.specs.declared.refusal.Refusal.{Refusal}
@@ -13,9 +17,10 @@ use Rattle.reports.specs.declared.query.ReportFault.{ReportFault}
 use Rattle.reports.specs.declared.query.ReportFault.TheVariants as report
 use Rattle.script_words.specs.declared.fault.LineFault.{LineFault}
 use Rattle.script_words.specs.declared.fault.LineFault.TheVariants as fault
+use Rattle.tech_parts.specs.declared.adding.Added.{Added}
+use Rattle.tech_parts.specs.declared.fault.PartFault.{PartFault}
+use Rattle.tech_parts.specs.declared.fault.PartFault.TheVariants as part
 use Rattle.odb_run.specs.declared.outcome.Outcome.{Outcome}
-use Rattle.odb_run.specs.declared.parts.PartFault.{PartFault}
-use Rattle.odb_run.specs.declared.parts.PartFault.TheVariants as part
 use Rattle.hex.specs.Hex.{encode_lower}
 
 -- `ok`
@@ -66,12 +71,40 @@ long_line_text = codes "refused 23 LongLine" ++ line_end
 unfoldable pub wrong_state_text : EcoState → List ℕ
 wrong_state_text state = codes "refused 24 WrongState" ++ spaced (eco_state_word state) ++ line_end
 
--- of a master that isn't entered; for want of memory there is no reply
+-- of parts that aren't entered; for want of memory there is no reply
 unfoldable pub part_text : PartFault → List ℕ
-part_text part.NameTaken = codes "refused 28 LefBuild NameTaken 1" ++ line_end
-part_text part.BadPart = codes "refused 28 LefBuild BadPart 1" ++ line_end
-part_text part.Full = codes "refused 28 LefBuild Full 1" ++ line_end
+part_text (part.UnitsChanged had got) = codes "refused 28 LefBuild UnitsChanged" ++ value had ++ value got ++ line_end
+part_text (part.NameTaken place) = codes "refused 28 LefBuild NameTaken" ++ value place ++ line_end
+part_text (part.BadPart place) = codes "refused 28 LefBuild BadPart" ++ value place ++ line_end
+part_text (part.Full place) = codes "refused 28 LefBuild Full" ++ value place ++ line_end
 part_text part.Memory = []
+
+-- the word for what is wrong with a LEF text
+abbrev pub lef_kind_word : LefFileFault → List ℕ
+lef_kind_word lef.Unexpected = codes "Unexpected"
+lef_kind_word lef.BadNumber = codes "BadNumber"
+lef_kind_word lef.BadName = codes "BadName"
+lef_kind_word lef.Cut = codes "Cut"
+lef_kind_word lef.OpenQuote = codes "OpenQuote"
+lef_kind_word lef.LongWord = codes "LongWord"
+lef_kind_word lef.TooLong = codes "TooLong"
+
+-- of a LEF text with which this is wrong on this line
+unfoldable pub lef_text : ℕ → LefFileFault → List ℕ
+lef_text line kind = codes "refused 27 LefText" ++ value line ++ spaced (lef_kind_word kind) ++ line_end
+
+-- of a LEF text that has no parts; for want of memory there is no reply
+unfoldable pub build_text : BuildFault → List ℕ
+build_text build.NoUnits = codes "refused 28 LefBuild NoUnits" ++ line_end
+build_text (build.UnitsChanged had got) = part_text (part.UnitsChanged had got)
+build_text (build.UnknownLayer name) = codes "refused 28 LefBuild UnknownLayer" ++ spaced name ++ line_end
+build_text (build.UnknownSite name) = codes "refused 28 LefBuild UnknownSite" ++ spaced name ++ line_end
+build_text (build.BadValue name) = codes "refused 28 LefBuild BadValue" ++ spaced name ++ line_end
+build_text build.Memory = []
+
+-- `ok LAYERS VIAS SITES MASTERS PASSED`
+unfoldable pub added_text : ℕ → Added → List ℕ
+added_text passed a = codes "ok" ++ value a.layers ++ value a.vias ++ value a.sites ++ value a.masters ++ value passed ++ line_end
 
 -- of a query of an object that isn't there; for want of memory there is no reply
 unfoldable pub report_fault_text : ReportFault → List ℕ

@@ -1,8 +1,7 @@
 -- What the calls of a session do to its state.
-use Rattle.std.specs.Prelude.{◌≡◌, ◌≢◌, ◌+◌, ◌++◌, List, [], ℕ, Option, None, Some, Result, Ok, Err, length}
-use Rattle.odb_base.specs.declared.id.MasterId.{MasterId}
-use Rattle.library.specs.declared.master.Master.{Master}
+use Rattle.std.specs.Prelude.{◌≡◌, ◌≢◌, ◌++◌, List, [], ℕ, Option, None, Some, Result, Ok, Err, length}
 use Rattle.edit_words.specs.declared.edit.Edit.{Edit}
+use Rattle.edit_words.specs.declared.part.TechPart.{TechPart}
 use Rattle.edit_words.specs.declared.refusal.Refusal.{Refusal}
 use Rattle.edit_words.specs.declared.refusal.Refusal.TheVariants as refusal
 use Rattle.edit_words.specs.declared.step.Step.{Step}
@@ -11,16 +10,17 @@ use Rattle.odb_save.specs.declared.load_fault.LoadFault.{LoadFault}
 use Rattle.odb_save.specs.declared.load_fault.LoadFault.TheVariants as load
 use Rattle.steps_net.specs.Do.{do_all}
 use Rattle.edits.specs.Plan.{made}
+use Rattle.tech_parts.specs.Adding.{added_by, with_parts}
+use Rattle.tech_parts.specs.declared.adding.Added.{Added}
+use Rattle.tech_parts.specs.declared.fault.PartFault.{PartFault}
+use Rattle.tech_parts.specs.declared.fault.PartFault.TheVariants as part
 use Rattle.odb_run.specs.declared.outcome.Outcome.{Outcome}
-use Rattle.odb_run.specs.declared.parts.PartFault.{PartFault}
-use Rattle.odb_run.specs.declared.parts.PartFault.TheVariants as part
 use Rattle.odb_run.specs.declared.session.AddFault.{AddFault}
 use Rattle.odb_run.specs.declared.session.AddFault.TheVariants as add
 use Rattle.odb_run.specs.declared.session.UndoFault.{UndoFault}
 use Rattle.odb_run.specs.declared.session.UndoFault.TheVariants as undo
 use Rattle.odb_run.specs.declared.session.WrongState.{WrongState}
-use Rattle.odb_run.specs.Machine.{Kept, State, after_edit, eco_state, lone_outcome, plan_in, with_master}
-use Rattle.odb_run.specs.Parts.{part_fault}
+use Rattle.odb_run.specs.Machine.{Kept, State, after_edit, eco_state, lone_outcome, plan_in}
 
 -- the first of these steps were done
 pub record IsPartDone (steps : List Step) (old new : State) : Type 0 where
@@ -70,19 +70,19 @@ Undoes s None (Err undo.Memory) new = ⊥
 Undoes s (Some kept) (Err (undo.WrongState is)) new = ⊥
 Undoes s None (Ok count) new = ⊥
 
--- what the library answers to a master where no ECO stands
-abbrev pub IsAdded : State → Master → Result MasterId PartFault → State → Type 0
-IsAdded s m (Ok id) new = (part_fault s.database m ≡ None) × (new ≡ record s { database = with_master m s.database }) × (id.0 ≡ length s.database.library + 1)
-IsAdded s m (Err why) new = (why ≢ part.Memory → part_fault s.database m ≡ Some why) × (new ≡ s)
+-- what entering parts comes to where no ECO stands
+abbrev pub IsAdded : State → List TechPart → Result Added PartFault → State → Type 0
+IsAdded s parts (Ok added) new = (with_parts 0 parts s.database ≡ Ok new.database) × (new ≡ record s { database = new.database }) × (added ≡ added_by parts s.database new.database)
+IsAdded s parts (Err why) new = (why ≢ part.Memory → with_parts 0 parts s.database ≡ Err why) × (new ≡ s)
 
--- what adding a master does
-abbrev pub Adds : State → Master → Option Kept → Result MasterId AddFault → State → Type 0
-Adds s m None (Ok id) new = IsAdded s m (Ok id) new
-Adds s m None (Err (add.Part why)) new = IsAdded s m (Err why) new
-Adds s m None (Err (add.WrongState is)) new = ⊥
-Adds s m (Some kept) (Ok id) new = ⊥
-Adds s m (Some kept) (Err (add.Part why)) new = ⊥
-Adds s m (Some kept) (Err (add.WrongState is)) new = (is ≡ eco_state (Some kept)) × (new ≡ s)
+-- what adding parts does
+abbrev pub Adds : State → List TechPart → Option Kept → Result Added AddFault → State → Type 0
+Adds s parts None (Ok added) new = IsAdded s parts (Ok added) new
+Adds s parts None (Err (add.Part why)) new = IsAdded s parts (Err why) new
+Adds s parts None (Err (add.WrongState is)) new = ⊥
+Adds s parts (Some kept) (Ok added) new = ⊥
+Adds s parts (Some kept) (Err (add.Part why)) new = ⊥
+Adds s parts (Some kept) (Err (add.WrongState is)) new = (is ≡ eco_state (Some kept)) × (new ≡ s)
 
 -- What loading bytes does: the database is the one that they spell, with the cap of the one that stood.
 abbrev pub Puts : State → List ℕ → Result (Unit {0}) LoadFault → State → Type 0

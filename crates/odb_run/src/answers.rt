@@ -4,20 +4,19 @@ ghost use Rattle.odb_outside.specs.declared.shelf.Hand.{Hand as AnyHand};
 ghost use Rattle.shelf_files.specs.Causes.{HasCause};
 ghost use Rattle.odb_run.specs.Answering.{IsAnswer, IsCommandAnswer, IsRequestAnswer};
 ghost use Rattle.odb_run.specs.Loaded.{GivesInSession, TouchesNoFile};
-ghost use Rattle.odb_run.specs.Machine.{begin_answer, edit_answer, master_answer, report_answer, save_answer, undo_answer};
+ghost use Rattle.odb_run.specs.Machine.{begin_answer, edit_answer, part_answer, report_answer, save_answer, undo_answer};
 ghost use Rattle.odb_run.specs.Running.{Answers, GivesTold};
 ghost use Rattle.script_words.specs.Commands.{request_of};
 
 use crate::file_answers::{answer_load, answer_save_to};
-use crate::parts::PartFault;
+use crate::lef_answers::answer_read_lef;
 use crate::reply::{
     put_fault, put_long_line, put_ok, put_ok_number, put_outcome, put_part_fault, put_refusal,
     put_report_fault, put_saved, put_wrong_state,
 };
 use crate::run::LINE_LIMIT;
 use crate::session::{AddFault, Session, UndoFault};
-use edit_words::{Edit, Refusal};
-use library::Master;
+use edit_words::{Edit, Refusal, TechPart};
 use odb_base::Steps;
 use odb_outside::{Hand, Shelf};
 use odb_save::save;
@@ -89,6 +88,7 @@ fn answer_command<F: Shelf, L: Ledger>(
     match command {
         Command::Save { file } => answer_save_to(alloc, session, &file, shelf, replies),
         Command::Load { file } => answer_load(alloc, session, &file, shelf, replies),
+        Command::ReadLef { file } => answer_read_lef(alloc, session, &file, shelf, replies),
         other => Ok(answer_in_session(alloc, session, other, replies, moves)?),
     }
 }
@@ -106,7 +106,12 @@ fn answer_in_session<L: Ledger>(
 {
     match command {
         Command::Edit(edit) => answer_edit(alloc, session, &edit, replies, moves),
-        Command::Master(master) => answer_master(session, master, replies),
+        Command::Units(units) => answer_part(alloc, session, TechPart::Units(units), replies),
+        Command::Layer(layer) => answer_part(alloc, session, TechPart::Layer(layer), replies),
+        Command::Site(site) => answer_part(alloc, session, TechPart::Site(site), replies),
+        Command::Master(master) => {
+            answer_part(alloc, session, TechPart::Master(master), replies)
+        }
         Command::Find { kind, name } => answer_query(session, &Query::Find { kind, name }, replies),
         Command::List { kind } => answer_query(session, &Query::List { kind }, replies),
         Command::Free { kind } => answer_query(session, &Query::Free { kind }, replies),
@@ -115,7 +120,7 @@ fn answer_in_session<L: Ledger>(
         Command::SaveShown => answer_save(alloc, session, replies),
         Command::EcoBegin => answer_begin(alloc, session, replies),
         Command::EcoUndo => answer_undo(session, replies, moves),
-        Command::Save { .. } | Command::Load { .. } => unreachable!(),
+        Command::Save { .. } | Command::Load { .. } | Command::ReadLef { .. } => unreachable!(),
     }
 }
 
@@ -141,17 +146,20 @@ fn answer_edit<L: Ledger>(
     }
 }
 
-#[tactic(auto, unfolding(crate::specs::Machine::master_answer))]
-fn answer_master(
+#[tactic(auto, unfolding(crate::specs::Machine::part_answer))]
+fn answer_part(
+    alloc: Global,
     session: &mut Session,
-    master: Master,
+    part: TechPart,
     replies: &mut Vec<u8>,
 ) -> Result<bool, AllocError>
-    ensures { IfOk result (Answers (master_answer session.old master session.old.eco) session.new replies.old.items replies.new.items) }
+    ensures { IfOk result (Answers (part_answer session.old part session.old.eco) session.new replies.old.items replies.new.items) }
 {
-    match session.add_master(master) {
-        Ok(id) => {
-            put_ok_number(replies, id.0 as u64)?;
+    let mut parts = Vec::new(alloc);
+    parts.push(part)?;
+    match session.add_parts(parts) {
+        Ok(added) => {
+            put_ok_number(replies, added.last as u64)?;
             Ok(false)
         }
         Err(AddFault::WrongState { is }) => {

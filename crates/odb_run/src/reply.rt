@@ -1,17 +1,19 @@
 ghost use Rattle.std.specs.Prelude.{◌≡◌, ◌≢◌, ◌++◌, OnOk};
 ghost use Rattle.odb_base.specs.Kind.{kind_word};
 ghost use Rattle.reports.specs.Texts.{line_end, spaced, value};
-ghost use Rattle.odb_run.specs.Replies.{fault_text, load_fault_text, long_file_text, long_line_text, no_file_text, not_live_text, number_text, ok_text, outcome_text, part_text, refusal_text, report_fault_text, saved_text, wrong_state_text};
+ghost use Rattle.odb_run.specs.Replies.{added_text, build_text, fault_text, lef_kind_word, lef_text, load_fault_text, long_file_text, long_line_text, no_file_text, not_live_text, number_text, ok_text, outcome_text, part_text, refusal_text, report_fault_text, saved_text, wrong_state_text};
 
 use crate::outcome::Outcome;
-use crate::parts::PartFault;
 use edit_words::Refusal;
+use lef_build::BuildFault;
+use lef_files::LefFileFault;
 use odb_base::{EcoState, Kind, Worded};
 use odb_save::LoadFault;
 use reports::ReportFault;
 use reports::text::{end_line, put_value, put_word};
 use script_words::LineFault;
 use std::alloc::{AllocError, Global};
+use tech_parts::{Added, PartFault};
 
 /// Appends `ok`.
 #[tactic(auto, unfolding(crate::specs::Replies::ok_text))]
@@ -111,18 +113,86 @@ pub fn put_wrong_state(out: &mut Vec<u8>, state: EcoState) -> Result<(), AllocEr
     put_worded(out, b"refused 24 WrongState", state.word())
 }
 
-/// Appends the refusal of a master; for want of memory there is none.
+/// Appends the refusal of parts; for want of memory there is none.
 #[tactic(auto, unfolding(crate::specs::Replies::part_text))]
 pub fn put_part_fault(out: &mut Vec<u8>, fault: PartFault) -> Result<(), AllocError>
     ensures text { OnOk result (out.new.items ≡ out.old.items ++ part_text fault) }
     ensures memory { OnOk result (fault ≢ PartFault.Memory) }
 {
     match fault {
-        PartFault::NameTaken => put_line(out, b"refused 28 LefBuild NameTaken 1"),
-        PartFault::BadPart => put_line(out, b"refused 28 LefBuild BadPart 1"),
-        PartFault::Full => put_line(out, b"refused 28 LefBuild Full 1"),
+        PartFault::UnitsChanged { had, got } => {
+            put_two_numbers(out, b"refused 28 LefBuild UnitsChanged", had, got)
+        }
+        PartFault::NameTaken { at } => put_numbered(out, b"refused 28 LefBuild NameTaken", at),
+        PartFault::BadPart { at } => put_numbered(out, b"refused 28 LefBuild BadPart", at),
+        PartFault::Full { at } => put_numbered(out, b"refused 28 LefBuild Full", at),
         PartFault::Memory => Err(AllocError),
     }
+}
+
+/// Appends the refusal of a LEF text: the line of its first fault, and what it is.
+#[tactic(auto, unfolding(crate::specs::Replies::lef_text))]
+pub fn put_lef_fault(out: &mut Vec<u8>, line: u64, kind: LefFileFault) -> Result<(), AllocError>
+    ensures { OnOk result (out.new.items ≡ out.old.items ++ lef_text line kind) }
+{
+    out.extend_from_slice(b"refused 27 LefText")?;
+    put_value(out, line)?;
+    put_word(out, lef_word(kind))?;
+    end_line(out)?;
+    Ok(())
+}
+
+fn lef_word(kind: LefFileFault) -> &'static [u8]
+    ensures { result.now ≡ lef_kind_word kind }
+{
+    match kind {
+        LefFileFault::Unexpected => b"Unexpected",
+        LefFileFault::BadNumber => b"BadNumber",
+        LefFileFault::BadName => b"BadName",
+        LefFileFault::Cut => b"Cut",
+        LefFileFault::OpenQuote => b"OpenQuote",
+        LefFileFault::LongWord => b"LongWord",
+        LefFileFault::TooLong => b"TooLong",
+    }
+}
+
+/// Appends the refusal of a LEF text that has no parts; for want of memory there is none.
+#[tactic(auto, unfolding(crate::specs::Replies::build_text))]
+pub fn put_build_fault(out: &mut Vec<u8>, fault: BuildFault) -> Result<(), AllocError>
+    ensures text { OnOk result (out.new.items ≡ out.old.items ++ build_text fault) }
+    ensures memory { OnOk result (fault ≢ BuildFault.Memory) }
+{
+    match fault {
+        BuildFault::NoUnits => put_line(out, b"refused 28 LefBuild NoUnits"),
+        BuildFault::UnitsChanged { had, got } => {
+            put_part_fault(out, PartFault::UnitsChanged { had, got })
+        }
+        BuildFault::UnknownLayer { name } => {
+            put_worded(out, b"refused 28 LefBuild UnknownLayer", name.bytes())
+        }
+        BuildFault::UnknownSite { name } => {
+            put_worded(out, b"refused 28 LefBuild UnknownSite", name.bytes())
+        }
+        BuildFault::BadValue { name } => {
+            put_worded(out, b"refused 28 LefBuild BadValue", name.bytes())
+        }
+        BuildFault::Memory => Err(AllocError),
+    }
+}
+
+/// Appends `ok LAYERS VIAS SITES MASTERS PASSED`.
+#[tactic(auto, unfolding(crate::specs::Replies::added_text))]
+pub fn put_added(out: &mut Vec<u8>, added: &Added, passed: u64) -> Result<(), AllocError>
+    ensures { OnOk result (out.new.items ≡ out.old.items ++ added_text passed added.now) }
+{
+    out.extend_from_slice(b"ok")?;
+    put_value(out, added.layers as u64)?;
+    put_value(out, added.vias as u64)?;
+    put_value(out, added.sites as u64)?;
+    put_value(out, added.masters as u64)?;
+    put_value(out, passed)?;
+    end_line(out)?;
+    Ok(())
 }
 
 /// Appends the refusal of a query; for want of memory there is none.
@@ -207,6 +277,17 @@ fn put_numbered(out: &mut Vec<u8>, text: &[u8], n: u64) -> Result<(), AllocError
 {
     out.extend_from_slice(text)?;
     put_value(out, n)?;
+    end_line(out)?;
+    Ok(())
+}
+
+// Appends a line of a text and two numbers.
+fn put_two_numbers(out: &mut Vec<u8>, text: &[u8], a: u32, b: u32) -> Result<(), AllocError>
+    ensures { OnOk result (out.new.items ≡ out.old.items ++ (text.now ++ value a ++ value b ++ line_end)) }
+{
+    out.extend_from_slice(text)?;
+    put_value(out, a as u64)?;
+    put_value(out, b as u64)?;
     end_line(out)?;
     Ok(())
 }

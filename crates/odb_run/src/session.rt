@@ -6,17 +6,16 @@ ghost use Rattle.block_store.specs.declared.block.TheConstants.{SLOT_LIMIT};
 
 use crate::journal::Journal;
 use crate::outcome::Outcome;
-use crate::parts::{PartFault, part_fault};
 use crate::steps::{do_noted, do_unnoted, undo_all};
 use block_store::Database;
-use edit_words::{Edit, Refusal, Step};
+use edit_words::{Edit, Refusal, Step, TechPart};
 use edits::plan;
-use library::Master;
-use odb_base::{EcoState, MasterId, Steps};
+use odb_base::{EcoState, Steps};
 use odb_save::{LoadFault, load};
 use std::alloc::{AllocError, Global};
 use std::marker::Model;
 use std::sync::ledger::Ledger;
+use tech_parts::{Added, PartFault, add_parts};
 
 /// The ECO state isn't one from which the call goes.
 #[derive(Clone, Copy, Debug, PartialEq, Eq)]
@@ -33,12 +32,12 @@ pub enum UndoFault {
     Memory,
 }
 
-/// Why a master isn't added.
+/// Why parts aren't added.
 #[derive(Clone, Copy, Debug, PartialEq, Eq)]
 pub enum AddFault {
     /// An ECO stands.
     WrongState { is: EcoState },
-    /// The library doesn't take it.
+    /// The technology or the library doesn't take one.
     Part(PartFault),
 }
 
@@ -138,19 +137,16 @@ impl Session {
         }
     }
 
-    /// Adds a master to the library. A refusal, and want of memory, leave everything as it was.
-    pub fn add_master(&mut self, master: Master) -> Result<MasterId, AddFault>
-        ensures { Adds self.old master self.old.eco result self.new }
+    /// Enters parts into the technology and the library. A refusal, and want of memory, leave everything as it was.
+    pub fn add_parts(&mut self, parts: Vec<TechPart>) -> Result<Added, AddFault>
+        ensures { Adds self.old parts.items self.old.eco result self.new }
     {
         if self.journal.is_some() {
             return Err(AddFault::WrongState { is: EcoState::Open });
         }
-        if let Some(fault) = part_fault(&self.database, &master) {
-            return Err(AddFault::Part(fault));
-        }
-        match self.database.add_master(master) {
-            Ok(id) => Ok(id),
-            Err(AllocError) => Err(AddFault::Part(PartFault::Memory)),
+        match add_parts(&mut self.database, parts) {
+            Ok(added) => Ok(added),
+            Err(fault) => Err(AddFault::Part(fault)),
         }
     }
 

@@ -3,6 +3,7 @@ ghost use Rattle.std.specs.List.{list_all};
 ghost use Rattle.odb_outside.specs.Calls.{is_call_number};
 
 mod files;
+mod lef;
 mod rows;
 
 use crate::{Status, odb_main};

@@ -4,7 +4,7 @@ use Rattle.std.specs.List.{list_all, slice_index}
 use Rattle.std.specs.Str.{IsUtf8}
 use Rattle.std.proofs.lemmas.Bool.{false≢true}
 use Rattle.std.proofs.lemmas.Str.{IsUtf8-from_ascii}
-use Rattle.script_words.specs.Forms.{is_file_byte, is_file_name, is_mark}
+use Rattle.script_words.specs.Forms.{is_file_byte, is_file_name}
 
 small : (b : ℕ) → is_file_byte b ≡ true → b < 128
 small b is = grind arith

@@ -3,7 +3,7 @@ use Rattle.std.specs.Prelude.{◌≡◌, List, ℕ, Option, None, Some, Result, 
 use Rattle.std.specs.Borrow.{Bor}
 use Rattle.script_words.specs.declared.fault.LineFault.{LineFault}
 use Rattle.script_words.specs.declared.fault.LineFault.TheVariants as fault
-use Rattle.script_words.specs.Forms.{Taken, Words}
+use Rattle.script_words.specs.Forms.{Taken}
 use Rattle.script_words.specs.Words.{words_of}
 
 -- The call took this, and the words that are left are behind it; or it is the same fault.

@@ -5,13 +5,18 @@ use Rattle.edit_words.specs.declared.edit.Edit.TheVariants as edit
 use Rattle.library.specs.declared.master.Master.{Master}
 use Rattle.library.specs.declared.mterm.MTerm.{MTerm}
 use Rattle.odb_base.specs.declared.codes.direction.Direction.{Direction}
+use Rattle.odb_base.specs.declared.codes.layer_direction.LayerDirection.TheVariants as layer_direction
+use Rattle.odb_base.specs.declared.codes.layer_type.LayerType.{LayerType}
+use Rattle.odb_base.specs.declared.codes.site_class.SiteClass.{SiteClass}
 use Rattle.odb_base.specs.declared.codes.usage.Usage.TheVariants as usage
 use Rattle.script_words.specs.declared.command_words.Command.{Command}
 use Rattle.script_words.specs.declared.command_words.Command.TheVariants as command
 use Rattle.script_words.specs.declared.fault.LineFault.{LineFault}
 use Rattle.script_words.specs.declared.fault.LineFault.TheVariants as fault
+use Rattle.tech.specs.declared.layer.Layer.{Layer}
+use Rattle.tech.specs.declared.site.Site.{Site}
 use Rattle.script_words.specs.Answers.{IsAnswer}
-use Rattle.script_words.specs.Forms.{◌>>=◌, Taken, Words, direction_at, end_at, file_at, id_at, kind_at, name_at, named_kind_at, number_at, orient_at, size_at, status_at, usage_at, word_at}
+use Rattle.script_words.specs.Forms.{◌>>=◌, Taken, Words, direction_at, end_at, file_at, id_at, kind_at, layer_type_at, name_at, named_kind_at, number_at, orient_at, site_class_at, size_at, status_at, usage_at, word_at}
 use Rattle.script_words.specs.Words.{words_of}
 
 -- a command, no command in a blank line or a comment, or why the line is none
@@ -132,7 +137,54 @@ part words = do
   done ← end_at words
   Ok (command.Edit (edit.Part kind id))
 
--- The line of a master. Its names are lawful.
+-- The lines of the technology and of masters. Their names are lawful.
+
+-- `units N`, where N has the form of an identifier
+unfoldable pub units : Line
+units words = do
+  (n, words) ← id_at words
+  done ← end_at words
+  Ok (command.Units n)
+
+-- a layer of which no more is said than its name and its type
+abbrev pub plain_layer : List ℕ → LayerType → Layer
+plain_layer name sort = record {
+  name = name;
+  sort = sort;
+  direction = layer_direction.None;
+  pitch_x = pos 0;
+  pitch_y = pos 0;
+  width = pos 0;
+  spacing = pos 0;
+}
+
+-- `layer NAME TYPE`
+unfoldable pub layer : Line
+layer words = do
+  (name, words) ← name_at words
+  (sort, words) ← layer_type_at words
+  done ← end_at words
+  Ok (command.Layer (plain_layer name sort))
+
+-- a site of which no more is said than its name, its class and its size
+abbrev pub plain_site : List ℕ → SiteClass → ℤ → ℤ → Site
+plain_site name class width height = record {
+  name = name;
+  class = class;
+  symmetry = record { 0 = 0 };
+  width = width;
+  height = height;
+}
+
+-- `site NAME CLASS W H`
+unfoldable pub site : Line
+site words = do
+  (name, words) ← name_at words
+  (class, words) ← site_class_at words
+  (width, words) ← size_at words
+  (height, words) ← size_at words
+  done ← end_at words
+  Ok (command.Site (plain_site name class width height))
 
 -- a terminal of no use and without shapes
 abbrev pub plain_terminal : List ℕ → Direction → MTerm
@@ -230,7 +282,7 @@ unfoldable pub save : Line
 save [] = Err fault.BadWords
 save (word ∷ words) = if bytes_eq word (codes "-") then bare command.SaveShown words else on_file command.Save (word ∷ words)
 
--- The table of commands, in three parts: each goes on with the one above it.
+-- The table of commands, in four parts: each goes on with the one above it.
 
 -- queries, saving and the ECO
 unfoldable pub asking : List ℕ → Line
@@ -259,15 +311,24 @@ changing word words =
     else if bytes_eq word (codes "part") then part words
     else asking word words
 
--- what makes and removes objects, and masters
+-- what is entered into the technology and the library
+unfoldable pub entering : List ℕ → Line
+entering word words =
+    if bytes_eq word (codes "units") then units words
+    else if bytes_eq word (codes "layer") then layer words
+    else if bytes_eq word (codes "site") then site words
+    else if bytes_eq word (codes "master") then master words
+    else if bytes_eq word (codes "read_lef") then on_file command.ReadLef words
+    else changing word words
+
+-- what makes and removes objects
 unfoldable pub named : List ℕ → Line
 named word words =
     if bytes_eq word (codes "new_inst") then new_inst words
     else if bytes_eq word (codes "new_net") then new_net words
     else if bytes_eq word (codes "new_bterm") then new_bterm words
     else if bytes_eq word (codes "destroy") then destroy words
-    else if bytes_eq word (codes "master") then master words
-    else changing word words
+    else entering word words
 
 -- by the words of the line; a first word that begins with `#` makes it a comment
 abbrev pub asked : Words → Request

@@ -6,15 +6,19 @@ use Rattle.std.specs.Option.{option_map}
 use Rattle.std.specs.Str.{bytes_eq}
 use Rattle.odb_base.specs.Direction.{direction_word, directions}
 use Rattle.odb_base.specs.Kind.{kind_word, kinds}
+use Rattle.odb_base.specs.LayerType.{layer_type_word, layer_types}
 use Rattle.odb_base.specs.Name.{name_fault}
 use Rattle.odb_base.specs.Orient.{orient_word, orients}
 use Rattle.odb_base.specs.PlaceStatus.{place_status_word, place_statuses}
+use Rattle.odb_base.specs.SiteClass.{site_class_word, site_classes}
 use Rattle.odb_base.specs.Usage.{usage_word, usages}
 use Rattle.odb_base.specs.declared.codes.direction.Direction.{Direction}
 use Rattle.odb_base.specs.declared.codes.kind.Kind.{Kind}
 use Rattle.odb_base.specs.declared.codes.kind.Kind.TheVariants as kind
+use Rattle.odb_base.specs.declared.codes.layer_type.LayerType.{LayerType}
 use Rattle.odb_base.specs.declared.codes.orient.Orient.{Orient}
 use Rattle.odb_base.specs.declared.codes.place_status.PlaceStatus.{PlaceStatus}
+use Rattle.odb_base.specs.declared.codes.site_class.SiteClass.{SiteClass}
 use Rattle.odb_base.specs.declared.codes.usage.Usage.{Usage}
 use Rattle.odb_base.specs.declared.name.NameFault.{NameFault}
 use Rattle.script_words.specs.declared.fault.LineFault.{LineFault}
@@ -176,6 +180,12 @@ usage_at words = value_at usages usage_word words
 
 abbrev pub direction_at : Words → Taken Direction
 direction_at words = value_at directions direction_word words
+
+abbrev pub layer_type_at : Words → Taken LayerType
+layer_type_at words = value_at layer_types layer_type_word words
+
+abbrev pub site_class_at : Words → Taken SiteClass
+site_class_at words = value_at site_classes site_class_word words
 
 -- a kind whose objects have names
 abbrev pub named_kind_at : Words → Taken Kind

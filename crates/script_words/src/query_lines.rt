@@ -86,6 +86,16 @@ pub fn load(alloc: Global, line: &[u8]) -> Result<Command, LineFault>
     Ok(Command::Load { file })
 }
 
+/// `read_lef FILE`.
+#[tactic(auto, unfolding(crate::specs::Commands::on_file))]
+pub fn read_lef(alloc: Global, line: &[u8]) -> Result<Command, LineFault>
+    ensures { IsAnswer result (on_file command.ReadLef (words_of line.now)) }
+{
+    let (file, line) = file(alloc, line)?;
+    end(line)?;
+    Ok(Command::ReadLef { file })
+}
+
 /// A command without arguments.
 #[tactic(auto, unfolding(crate::specs::Commands::bare))]
 pub fn bare(command: Command, line: &[u8]) -> Result<Command, LineFault>

@@ -1,5 +1,5 @@
 ghost use Rattle.std.specs.Prelude.{◌≡◌, ◌==◌, slice_index};
-ghost use Rattle.script_words.specs.Commands.{IsRequest, asking, changing, named, request_of};
+ghost use Rattle.script_words.specs.Commands.{IsRequest, asking, changing, entering, named, request_of};
 ghost use Rattle.script_words.specs.Answers.{IsAnswer};
 ghost use Rattle.script_words.specs.Words.{words_of};
 
@@ -10,7 +10,8 @@ use crate::edit_lines::{
 };
 use crate::fault::LineFault;
 use crate::master_line::master;
-use crate::query_lines::{bare, find, free, list, load, save, terms};
+use crate::query_lines::{bare, find, free, list, load, read_lef, save, terms};
+use crate::tech_lines::{layer, site, units};
 use crate::words::next_word;
 use std::alloc::Global;
 
@@ -52,13 +53,33 @@ fn named(alloc: Global, word: &[u8], words: &[u8]) -> Result<Command, LineFault>
     if word == b"destroy".as_slice() {
         return destroy(words);
     }
+    entering(alloc, word, words)
+}
+
+// The same, of a word that is none of those.
+#[tactic(auto, unfolding(crate::specs::Commands::entering))]
+fn entering(alloc: Global, word: &[u8], words: &[u8]) -> Result<Command, LineFault>
+    ensures { IsAnswer result (entering word.now (words_of words.now)) }
+{
+    if word == b"units".as_slice() {
+        return units(words);
+    }
+    if word == b"layer".as_slice() {
+        return layer(alloc, words);
+    }
+    if word == b"site".as_slice() {
+        return site(alloc, words);
+    }
     if word == b"master".as_slice() {
         return master(alloc, words);
+    }
+    if word == b"read_lef".as_slice() {
+        return read_lef(alloc, words);
     }
     changing(alloc, word, words)
 }
 
-// The same, of a word that is none of those.
+// The same, of a word that is none of those either.
 #[tactic(auto, unfolding(crate::specs::Commands::changing))]
 fn changing(alloc: Global, word: &[u8], words: &[u8]) -> Result<Command, LineFault>
     ensures { IsAnswer result (changing word.now (words_of words.now)) }
@@ -90,7 +111,7 @@ fn changing(alloc: Global, word: &[u8], words: &[u8]) -> Result<Command, LineFau
     asking(alloc, word, words)
 }
 
-// The same, of a word that is none of those either.
+// The same, of a word that is in none of the parts above.
 #[tactic(auto, unfolding(crate::specs::Commands::asking))]
 fn asking(alloc: Global, word: &[u8], words: &[u8]) -> Result<Command, LineFault>
     ensures { IsAnswer result (asking word.now (words_of words.now)) }

@@ -1,4 +1,5 @@
 use super::*;
+use bitflags::Flags;
 use edit_words::Edit;
 use library::Master;
 use odb_base::Text;
@@ -6,6 +7,7 @@ use std::alloc::Global;
 use std::process::Abort;
 use std::str::from_utf8;
 use std::test::Fail;
+use tech::{Layer, Site};
 
 fn shown(text: &Text) -> Result<&str, Fail> {
     Ok(from_utf8(text.bytes())?)
@@ -23,7 +25,11 @@ fn told(alloc: Global, line: &str) -> Result<String, Fail> {
 fn told_command(alloc: Global, command: &Command) -> Result<String, Fail> {
     Ok(match command {
         Command::Edit(edit) => told_edit(alloc, edit)?,
+        Command::Units(units) => format!(in alloc; "Units {units}")?,
+        Command::Layer(layer) => told_layer(alloc, layer)?,
+        Command::Site(site) => told_site(alloc, site)?,
         Command::Master(master) => told_master(alloc, master)?,
+        Command::ReadLef { file } => format!(in alloc; "ReadLef file={}", file.as_str())?,
         Command::Find { kind, name } => format!(in alloc; "Find {kind:?} name={}", shown(name)?)?,
         Command::List { kind } => format!(in alloc; "List {kind:?}")?,
         Command::Free { kind } => format!(in alloc; "Free {kind:?}")?,
@@ -81,6 +87,24 @@ fn told_numbers(alloc: Global, edit: &Edit) -> Result<String, Fail> {
     })
 }
 
+fn told_layer(alloc: Global, layer: &Layer) -> Result<String, Fail> {
+    let name = from_utf8(layer.name.bytes())?;
+    let (sort, direction) = (layer.sort, layer.direction);
+    Ok(format!(in alloc;
+        "Layer name={name} {sort:?} {direction:?} pitch={},{} width={} spacing={}",
+        layer.pitch_x, layer.pitch_y, layer.width, layer.spacing
+    )?)
+}
+
+fn told_site(alloc: Global, site: &Site) -> Result<String, Fail> {
+    let name = from_utf8(site.name.bytes())?;
+    let (class, symmetry) = (site.class, site.symmetry.bits());
+    Ok(format!(in alloc;
+        "Site name={name} {class:?} {}x{} symmetry={symmetry}",
+        site.width, site.height
+    )?)
+}
+
 fn told_master(alloc: Global, master: &Master) -> Result<String, Fail> {
     let name = from_utf8(master.name.bytes())?;
     let mut out = format!(in alloc; "Master name={name} {}x{}", master.width, master.height)?;
@@ -128,11 +152,26 @@ fn lines_and_what_they_ask_for(rt: HostRuntime) -> Result<(), Fail> {
             ("make_special 0", "MakeSpecial net=0"),
             ("join iterm 4 5", "Join ITerm id=4 net=5"),
             ("part bterm 6", "Part BTerm id=6"),
+            ("units 2000", "Units 2000"),
+            (
+                "layer met1 ROUTING",
+                "Layer name=met1 Routing None pitch=0,0 width=0 spacing=0",
+            ),
+            (
+                "layer m2 other",
+                "Layer name=m2 Other None pitch=0,0 width=0 spacing=0",
+            ),
+            (
+                "site unit CORE 460 -2720",
+                "Site name=unit Core 460x-2720 symmetry=0",
+            ),
+            ("site io PAD 0 1", "Site name=io Pad 0x1 symmetry=0"),
             ("master FILL 0 -1", "Master name=FILL 0x-1"),
             (
                 "master INVX1 380 1400 A INPUT Y OUTPUT VDD -",
                 "Master name=INVX1 380x1400, A Input, Y Output, VDD None",
             ),
+            ("read_lef cells.lef", "ReadLef file=cells.lef"),
             ("find net clk", "Find Net name=clk"),
             ("find group *", "Find Group name=*"),
             ("list pin", "List Pin"),
@@ -166,6 +205,20 @@ fn lines_that_are_no_command(rt: HostRuntime) -> Result<(), Fail> {
             ("place inst 1 PLACED 10 20 R0", "BadWords"),
             ("set_use net 1 NONE", "BadWords"),
             ("set_dir 1 OUTPUT TRISTATE", "BadWords"),
+            ("units", "BadWords"),
+            ("units 1 1", "BadWords"),
+            ("units -1", "BadWords"),
+            ("layer met1", "BadWords"),
+            ("layer met1 CUT 0", "BadWords"),
+            ("layer a* CUT", "BadWords"),
+            ("layer met1 -", "BadWords"),
+            ("layer met1 none", "BadWords"),
+            ("layer met1 OTHER", "BadWords"),
+            ("site unit CORE 460", "BadWords"),
+            ("site unit CORE 460 2720 Y", "BadWords"),
+            ("site ; CORE 460 2720", "BadWords"),
+            ("site unit - 460 2720", "BadWords"),
+            ("site unit 460 2720 CORE", "BadWords"),
             ("master a* 1 1", "BadWords"),
             ("master A 1 1 - INPUT", "BadWords"),
             ("master A 1 1 Y", "BadWords"),
@@ -180,6 +233,9 @@ fn lines_that_are_no_command(rt: HostRuntime) -> Result<(), Fail> {
             ("save f g", "BadWords"),
             ("load", "BadWords"),
             ("load -", "BadWords"),
+            ("read_lef", "BadWords"),
+            ("read_lef -", "BadWords"),
+            ("read_lef a b", "BadWords"),
         ],
     )
 }
@@ -198,6 +254,14 @@ fn numbers_at_their_limits(rt: HostRuntime) -> Result<(), Fail> {
             ),
             ("place pin 0 FIXED 1000000000000000000 0 N", "BadWords"),
             ("place pin 0 FIXED 0 -1000000000000000000 N", "BadWords"),
+            ("units 4294967295", "Units 4294967295"),
+            ("units 4294967296", "BadWords"),
+            (
+                "site s CORE -2147483648 2147483647",
+                "Site name=s Core -2147483648x2147483647 symmetry=0",
+            ),
+            ("site s CORE 2147483648 0", "BadWords"),
+            ("site s CORE 0 -2147483649", "BadWords"),
             ("terms 01", "BadWords"),
             ("terms -0", "BadWords"),
             ("terms +1", "BadWords"),

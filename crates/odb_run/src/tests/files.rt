@@ -32,7 +32,7 @@ fn push_zeros(bytes: &mut Vec<u8>, count: usize) -> Result<(), AllocError> {
 
 // Runs a script, read byte by byte, over a shelf with this file `f`, whose calls of these numbers fail. The answer is
 // the status, what was written, and the file.
-fn run(
+pub fn run(
     alloc: Global,
     words: &[Text],
     script: &[u8],

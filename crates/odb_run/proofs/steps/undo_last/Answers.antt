@@ -18,7 +18,7 @@ invariant_of-db-2 g c =
     let led = rw (sym c.db.view_is) at (last-led c.args.db.now c.args.journal.now.entries c.pop.new.self.entries c.in-Some.entry c.in-Some.ensures.some c.requires) in
     let went = rw (c.tag-tag.ensures, c.room_back.ensures.block) at c.unapply.ensures.back in
     rw (went, c.unapply.ensures.cap, c.room_back.ensures.cap) record {
-      units = c.db.invariant.units;
+      tech = c.db.invariant.tech;
       library = c.db.invariant.library;
       block = led.sound;
       capped = c.db.invariant.capped;

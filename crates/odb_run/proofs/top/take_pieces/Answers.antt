@@ -1,7 +1,6 @@
 use Rattle.std.proofs.Common.{◌<◌, ◌≤◌, length, length-take, arith}
 use Rattle.std.proofs.lemmas.Result.{err_from_is_err_and}
 use Rattle.odb_outside.specs.Shelves.{files_told}
-use Rattle.odb_run.specs.Running.{Counts}
 use Rattle.odb_run.proofs.Scripts.{counts_first, counts_much, counts_next, part_within, part_write, runs_err, runs_finished, runs_too_long, within_first, within_next}
 use Rattle.odb_run.proofs.top.take_pieces.Goals as goal
 

@@ -1,7 +1,6 @@
 use Rattle.std.proofs.Common.{◌||◌, ◌∙◌, ap, refl, subst}
 use Rattle.odb_outside.specs.Shelves.{files_told}
-use Rattle.odb_run.specs.Answering.{IsAnswer}
-use Rattle.odb_run.specs.Running.{GivesTold, Replied, Running}
+use Rattle.odb_run.specs.Running.{Replied, Running}
 use Rattle.odb_run.proofs.Runs.{replied_gives}
 use Rattle.odb_run.proofs.run.Run.reply_to.Goals as goal
 
