@@ -1,3 +1,7 @@
+ghost use Rattle.std.specs.Prelude.{◌≤◌};
+ghost use Rattle.odb_base.specs.declared.codes.kind.Kind.{Kind as AnyKind};
+ghost use Rattle.block_store.specs.Block.{slots_in};
+
 use super::*;
 use block_records::{BTermRec, Header, NetRec};
 use block_store::{BTermEntry, Block, Ids, NetEntry, PlainTable, Tables};
@@ -73,8 +77,9 @@ fn with_list(alloc: Global, name: &[u8], terms: Vec<u32>, joined: u32) -> Result
 #[test]
 fn headers(rt: HostRuntime) -> Result<(), Fail> {
     let alloc = rt.alloc();
+    let design = Text::new(alloc, b"top")?;
     let mut named = tables(alloc, Vec::new(alloc), Vec::new(alloc), Vec::new(alloc))?;
-    named.header.design = Text::new(alloc, b"top")?;
+    named.header.design = design;
     assert_eq!(rt; judged(alloc, named)?, Some((None, 0)));
     Ok(())
 }
@@ -82,10 +87,30 @@ fn headers(rt: HostRuntime) -> Result<(), Fail> {
 // The least place that isn't sound.
 fn judged(alloc: Global, tables: Tables) -> Result<Place, Fail> {
     if !fits(&tables, 100) {
+        drop(tables);
         return Ok(None);
     }
-    match Block::from_tables(alloc, tables, &Tech::new(alloc), &Library::new(alloc), 100) {
-        Ok(_) => Ok(None),
+    place_in(made(alloc, tables))
+}
+
+// The block of tables that fit, beside a technology and a library without entries.
+fn made(alloc: Global, tables: Tables) -> Result<Block, TablesFault>
+    requires { (k : AnyKind) → slots_in k tables ≤ 100 }
+{
+    let tech = Tech::new(alloc);
+    let library = Library::new(alloc);
+    let made = Block::from_tables(alloc, tables, &tech, &library, 100);
+    drop(tech);
+    drop(library);
+    made
+}
+
+fn place_in(made: Result<Block, TablesFault>) -> Result<Place, Fail> {
+    match made {
+        Ok(block) => {
+            drop(block);
+            Ok(None)
+        }
         Err(TablesFault::Unsound { kind, id }) => Ok(Some((kind, id))),
         Err(TablesFault::Memory) => Err(TablesFault::Memory)?,
     }

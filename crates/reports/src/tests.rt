@@ -7,9 +7,10 @@ use std::test::Fail;
 
 // The database without objects answers `wanted`, behind what stood in the reply before.
 fn answers(rt: &impl Abort, alloc: Global, query: Query, wanted: &[u8]) -> Result<(), Fail> {
-    let db = Database::new(alloc, 16)?;
     let mut out = vec![in alloc; b'>']?;
+    let db = Database::new(alloc, 16)?;
     let answer = report(&db, &query, &mut out);
+    drop(db);
     assert!(rt; answer.is_ok());
     assert!(rt; out.as_slice() == wanted);
     Ok(())
@@ -30,9 +31,10 @@ fn queries_of_an_empty_database(rt: HostRuntime) -> Result<(), Fail> {
 #[test]
 fn terminals_of_a_net_that_is_not_there(rt: HostRuntime) -> Result<(), Fail> {
     let alloc = rt.alloc();
-    let db = Database::new(alloc, 16)?;
     let mut out = Vec::new(alloc);
+    let db = Database::new(alloc, 16)?;
     let answer = report(&db, &Query::Terms { net: 3 }, &mut out);
+    drop(db);
     let fault = ReportFault::NotLive {
         kind: Kind::Net,
         id: 3,

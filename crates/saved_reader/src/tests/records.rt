@@ -189,9 +189,8 @@ fn whole<T: Spelled>(
 }
 
 #[test]
-fn pins_and_rows(rt: HostRuntime) -> Result<(), Fail> {
-    let alloc = rt.alloc();
-    let pin: PinRec = whole(&rt, alloc, &PIN)?;
+fn pins(rt: HostRuntime) -> Result<(), Fail> {
+    let pin: PinRec = whole(&rt, rt.alloc(), &PIN)?;
     assert_eq!(rt;
         (pin.bterm, pin.place.status.code(), pin.place.x),
         (5, 2, 10)
@@ -207,8 +206,18 @@ fn pins_and_rows(rt: HostRuntime) -> Result<(), Fail> {
         },
     };
     assert!(rt; pin.boxes.items() == [box_on_3].as_slice());
+    Ok(())
+}
 
-    let row: RowEntry = whole(&rt, alloc, &ROW)?;
+#[test]
+fn rows(rt: HostRuntime) -> Result<(), Fail> {
+    full_row(&rt, rt.alloc())?;
+    short_row(&rt, rt.alloc(), &ROW_OF_ONE_SITE, (0, 1, 1))?;
+    short_row(&rt, rt.alloc(), &ROW_WITHOUT_STEP, (1, 1_000_000, 2))
+}
+
+fn full_row(rt: &impl Abort, alloc: Global) -> Result<(), Fail> {
+    let row: RowEntry = whole(rt, alloc, &ROW)?;
     assert!(rt; row.fields.name.bytes() == b"r".as_slice());
     assert_eq!(rt; (row.fields.site, row.fields.x, row.fields.y), (2, 10, -10));
     assert_eq!(rt;
@@ -220,25 +229,44 @@ fn pins_and_rows(rt: HostRuntime) -> Result<(), Fail> {
         (row.fields.sx, row.fields.sy),
         (-2_000_000_000, 2_000_000_000)
     );
-    let bare: RowEntry = whole(&rt, alloc, &ROW_OF_ONE_SITE)?;
-    assert_eq!(rt; (bare.fields.form.code(), bare.fields.nx), (0, 1));
-    let done: RowEntry = whole(&rt, alloc, &ROW_WITHOUT_STEP)?;
-    assert_eq!(rt; (done.fields.form.code(), done.fields.ny), (1, 2));
+    Ok(())
+}
+
+// A row without a step, of this form and with so many sites along each axis.
+fn short_row(
+    rt: &impl Abort,
+    alloc: Global,
+    fields: &[(&[u8], &[u8])],
+    read: (u8, u32, u32),
+) -> Result<(), Fail> {
+    let row: RowEntry = whole(rt, alloc, fields)?;
+    assert_eq!(rt;
+        (row.fields.form.code(), row.fields.nx, row.fields.ny),
+        read
+    );
+    assert_eq!(rt; (row.fields.sx, row.fields.sy), (0, 0));
     Ok(())
 }
 
 #[test]
-fn tracks_wires_and_blockages(rt: HostRuntime) -> Result<(), Fail> {
-    let alloc = rt.alloc();
-    let track: TrackRec = whole(&rt, alloc, &TRACK)?;
+fn tracks(rt: HostRuntime) -> Result<(), Fail> {
+    let track: TrackRec = whole(&rt, rt.alloc(), &TRACK)?;
     assert_eq!(rt; (track.axis.code(), track.start), (1, -10));
     assert_eq!(rt; (track.count, track.step), (1_000_000, 1));
     assert!(rt; track.layers.items() == [7, 3].as_slice());
+    Ok(())
+}
 
-    let wire: WireRec = whole(&rt, alloc, &WIRE)?;
+#[test]
+fn wires(rt: HostRuntime) -> Result<(), Fail> {
+    let wire: WireRec = whole(&rt, rt.alloc(), &WIRE)?;
     assert_eq!(rt; (wire.net, wire.status.code(), wire.special), (9, 2, true));
+    Ok(())
+}
 
-    let blockage: BlockageRec = whole(&rt, alloc, &BLOCKAGE)?;
+#[test]
+fn blockages(rt: HostRuntime) -> Result<(), Fail> {
+    let blockage: BlockageRec = whole(&rt, rt.alloc(), &BLOCKAGE)?;
     assert_eq!(rt; blockage.layer, 0);
     assert!(rt; blockage.rects.items() == [FIELD].as_slice());
     Ok(())
@@ -253,19 +281,26 @@ const FIELD: Rect = Rect {
 };
 
 #[test]
-fn regions_groups_and_properties(rt: HostRuntime) -> Result<(), Fail> {
-    let alloc = rt.alloc();
-    let region: RegionEntry = whole(&rt, alloc, &REGION)?;
+fn regions(rt: HostRuntime) -> Result<(), Fail> {
+    let region: RegionEntry = whole(&rt, rt.alloc(), &REGION)?;
     assert!(rt; region.fields.name.bytes() == b"f".as_slice());
     assert_eq!(rt; region.fields.sort.code(), 2);
     assert!(rt; region.fields.rects.items() == [FIELD].as_slice());
+    Ok(())
+}
 
-    let group: GroupEntry = whole(&rt, alloc, &GROUP)?;
+#[test]
+fn groups(rt: HostRuntime) -> Result<(), Fail> {
+    let group: GroupEntry = whole(&rt, rt.alloc(), &GROUP)?;
     assert!(rt; group.fields.name.bytes() == b"g".as_slice());
     assert_eq!(rt; group.fields.region, 4);
     assert!(rt; group.members.items() == [8, 6].as_slice());
+    Ok(())
+}
 
-    let prop: PropRec = whole(&rt, alloc, &PROP)?;
+#[test]
+fn properties(rt: HostRuntime) -> Result<(), Fail> {
+    let prop: PropRec = whole(&rt, rt.alloc(), &PROP)?;
     assert_eq!(rt; (prop.definition, prop.object), (3, 11));
     Ok(())
 }
