@@ -202,7 +202,7 @@ fn lines_that_are_no_command(rt: HostRuntime) -> Result<(), Fail> {
             ("new_bterm a 1 2", "BadWords"),
             ("new_bterm a -1", "BadWords"),
             ("destroy Inst 1", "BadWords"),
-            ("place inst 1 PLACED 10 20 R0", "BadWords"),
+            ("place inst 1 PLACED 10 20 north", "BadWords"),
             ("set_use net 1 NONE", "BadWords"),
             ("set_dir 1 OUTPUT TRISTATE", "BadWords"),
             ("units", "BadWords"),
