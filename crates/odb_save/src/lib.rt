@@ -9,9 +9,9 @@
 //! sound, so no answer says otherwise: the only one besides the bytes is want of memory.
 //!
 //! [`load`] gives the database whose saved bytes are those that it is handed. The crate `saved_reader` reads what bytes
-//! spell, and `block_tables` judges whether that is sound. That the bytes of a sound database are read as that
-//! database, and that no other bytes are, are laws of this crate ([`saved_bytes_are_read`],
-//! [`read_bytes_are_saved`]). Bytes that no database has are refused by a [`LoadFault`], and there is one answer to the
+//! spell, `tech_parts` enters the technology and the masters, each where it is lawful, and `block_tables` judges whether
+//! the tables are sound with them. That the bytes of a sound database are read as that database, and that no other bytes
+//! are, are laws of this crate ([`saved_bytes_are_read`], [`read_bytes_are_saved`]). Bytes that no database has are refused by a [`LoadFault`], and there is one answer to the
 //! same bytes and cap ([`loading_is_determined`]).
 //!
 //! A save takes time for the slots and the bytes, and memory for the bytes alone. A load takes, on average, time for
