@@ -37,6 +37,3 @@ pub use region::{Rects, RegionRec};
 pub use row::RowRec;
 pub use track::{Layers, TrackRec};
 pub use wire::WireRec;
-
-#[cfg(test)]
-mod tests;

@@ -7,19 +7,15 @@ use Rattle.std.proofs.lemmas.List.{length_push}
 use Rattle.slot_pool.specs.Table.{IsGood, Table, once_if, record_at, times}
 use Rattle.block_records.specs.Header.{new_header}
 use Rattle.library.specs.Masters.{find_master, master_at}
-use Rattle.library.specs.declared.library.TheConstants.{MASTER_LIMIT}
 use Rattle.library.specs.declared.master.Master.{Master}
 use Rattle.named_list.proofs.Ids.{Placed, growing_keeps_ids, placed}
 use Rattle.tech.specs.Technology.{Technology, find_layer, find_site, find_via, with_layer, with_site, with_units, with_via}
 use Rattle.tech.specs.declared.layer.Layer.{Layer}
 use Rattle.tech.specs.declared.site.Site.{Site}
-use Rattle.tech.specs.declared.tech.TheConstants.{LIST_LIMIT}
 use Rattle.tech.specs.declared.via.TechVia.{TechVia}
 use Rattle.lawful_parts.specs.Laws.{HasGrown}
 use Rattle.lawful_parts.specs.Lawful.{IsLayer, IsLibrary, IsMaster, IsSite, IsTechVia, IsTechnology}
-use Rattle.lawful_parts.specs.declared.shapes.TheConstants.{UNIT_LIMIT}
 use Rattle.lawful_parts.proofs.Growing.{entering_keeps_libraries, growing_keeps_libraries, layer_has_grown, layers_keep_lawful, site_has_grown, sites_keep_lawful, units_have_grown, units_keep_lawful, via_has_grown, vias_keep_lawful}
-use Rattle.block_store.specs.declared.block.TheConstants.{SLOT_LIMIT}
 use Rattle.block_store.specs.Block.{Block, empty_block, empty_table}
 use Rattle.block_store.specs.Database.{Database, IsSoundDatabase, empty_database, with_master, with_tech}
 use Rattle.block_store.specs.Lists.{list_in}
@@ -83,7 +79,7 @@ lawful_masters : (t : Technology) (library : List Master) → IsLibrary t librar
 lawful_masters t library is id m found = (is.masters (id - 1) m (placed library id m found).at).distinct
 
 -- the database without masters and objects is sound
-pub sound_database : (cap : ℕ) → cap ≤ SLOT_LIMIT → IsSoundDatabase (empty_database cap)
+pub sound_database : (cap : ℕ) → cap ≤ 16777215 → IsSoundDatabase (empty_database cap)
 sound_database cap within = record {
   tech = record {
     units = omega arith;
@@ -134,7 +130,7 @@ sound_grown tech library more cap b lawful sound = record {
 }
 
 -- a lawful master of a new name comes last
-pub sound_with_master : (d : Database) (m : Master) → IsSoundDatabase d → IsMaster d.tech m → find_master d.library m.name ≡ None → length d.library < MASTER_LIMIT → IsSoundDatabase (with_master m d)
+pub sound_with_master : (d : Database) (m : Master) → IsSoundDatabase d → IsMaster d.tech m → find_master d.library m.name ≡ None → length d.library < 1000000 → IsSoundDatabase (with_master m d)
 sound_with_master d m sound lawful new room =
     let grown = entering_keeps_libraries d.tech d.library m sound.library lawful new room in
     record {
@@ -174,14 +170,14 @@ sound_with_tech d t sound lawful grown = record {
   capped = sound.capped;
 }
 
-pub sound_with_units : (d : Database) (n : ℕ) → IsSoundDatabase d → n ≤ UNIT_LIMIT → IsSoundDatabase (with_tech (with_units n d.tech) d)
+pub sound_with_units : (d : Database) (n : ℕ) → IsSoundDatabase d → n ≤ 100000 → IsSoundDatabase (with_tech (with_units n d.tech) d)
 sound_with_units d n sound few = sound_with_tech d (with_units n d.tech) sound (units_keep_lawful d.tech n sound.tech few) (units_have_grown d.tech n)
 
-pub sound_with_layer : (d : Database) (l : Layer) → IsSoundDatabase d → IsLayer l → find_layer d.tech l.name ≡ None → length d.tech.layers < LIST_LIMIT → IsSoundDatabase (with_tech (with_layer l d.tech) d)
+pub sound_with_layer : (d : Database) (l : Layer) → IsSoundDatabase d → IsLayer l → find_layer d.tech l.name ≡ None → length d.tech.layers < 1000000 → IsSoundDatabase (with_tech (with_layer l d.tech) d)
 sound_with_layer d l sound lawful new room = sound_with_tech d (with_layer l d.tech) sound (layers_keep_lawful d.tech l sound.tech lawful new room) (layer_has_grown d.tech l)
 
-pub sound_with_via : (d : Database) (v : TechVia) → IsSoundDatabase d → IsTechVia d.tech v → find_via d.tech v.name ≡ None → length d.tech.vias < LIST_LIMIT → IsSoundDatabase (with_tech (with_via v d.tech) d)
+pub sound_with_via : (d : Database) (v : TechVia) → IsSoundDatabase d → IsTechVia d.tech v → find_via d.tech v.name ≡ None → length d.tech.vias < 1000000 → IsSoundDatabase (with_tech (with_via v d.tech) d)
 sound_with_via d v sound lawful new room = sound_with_tech d (with_via v d.tech) sound (vias_keep_lawful d.tech v sound.tech lawful new room) (via_has_grown d.tech v)
 
-pub sound_with_site : (d : Database) (s : Site) → IsSoundDatabase d → IsSite s → find_site d.tech s.name ≡ None → length d.tech.sites < LIST_LIMIT → IsSoundDatabase (with_tech (with_site s d.tech) d)
+pub sound_with_site : (d : Database) (s : Site) → IsSoundDatabase d → IsSite s → find_site d.tech s.name ≡ None → length d.tech.sites < 1000000 → IsSoundDatabase (with_tech (with_site s d.tech) d)
 sound_with_site d s sound lawful new room = sound_with_tech d (with_site s d.tech) sound (sites_keep_lawful d.tech s sound.tech lawful new room) (site_has_grown d.tech s)

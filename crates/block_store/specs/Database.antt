@@ -4,7 +4,6 @@ use Rattle.block_records.specs.Header.{new_header}
 use Rattle.tech.specs.Technology.{Technology, empty_technology}
 use Rattle.library.specs.declared.master.Master.{Master}
 use Rattle.lawful_parts.specs.Lawful.{IsLibrary, IsTechnology}
-use Rattle.block_store.specs.declared.block.TheConstants.{SLOT_LIMIT}
 use Rattle.block_store.specs.Block.{Block, empty_block}
 use Rattle.block_store.specs.Sound.{IsSound}
 use Rattle.block_store.specs.Store.{Store}
@@ -43,4 +42,4 @@ pub record IsSoundDatabase (d : Database) : Type 0 where
   pub tech : IsTechnology d.tech
   pub library : IsLibrary d.tech d.library
   pub block : IsSound d.tech d.library d.cap d.block
-  pub capped : d.cap ≤ SLOT_LIMIT
+  pub capped : d.cap ≤ 16777215

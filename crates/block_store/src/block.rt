@@ -43,7 +43,6 @@ pub struct Block {
 impl Model for Block {
     ghost use Rattle.std.specs.Prelude.{◌≡◌, ◌≤◌, [], vec_capacity};
     ghost use Rattle.block_store.specs.Store.{Store};
-    ghost use Rattle.block_store.specs.declared.block.TheConstants.{SLOT_LIMIT};
 
     ghost Value = { Store };
 
@@ -81,13 +80,13 @@ impl Model for Block {
       };
     } };
 
-    ghost invariant = { λ s. (s.inst.cap ≡ s.cap) × (s.iterm.cap ≡ s.cap) × (s.net.cap ≡ s.cap) × (s.bterm.cap ≡ s.cap) × (s.pin.cap ≡ s.cap) × (s.row.cap ≡ s.cap) × (s.track.cap ≡ s.cap) × (s.wire.cap ≡ s.cap) × (s.blockage.cap ≡ s.cap) × (s.region.cap ≡ s.cap) × (s.group.cap ≡ s.cap) × (s.prop.cap ≡ s.cap) × (s.spare.items ≡ []) × (s.cap ≤ SLOT_LIMIT) };
+    ghost invariant = { λ s. (s.inst.cap ≡ s.cap) × (s.iterm.cap ≡ s.cap) × (s.net.cap ≡ s.cap) × (s.bterm.cap ≡ s.cap) × (s.pin.cap ≡ s.cap) × (s.row.cap ≡ s.cap) × (s.track.cap ≡ s.cap) × (s.wire.cap ≡ s.cap) × (s.blockage.cap ≡ s.cap) × (s.region.cap ≡ s.cap) × (s.group.cap ≡ s.cap) × (s.prop.cap ≡ s.cap) × (s.spare.items ≡ []) × (s.cap ≤ 16777215) };
 }
 
 impl Block {
     /// A block without objects, whose tables have at most `cap` slots each, at most [`SLOT_LIMIT`].
     pub fn new(alloc: Global, cap: u32) -> Result<Block, AllocError>
-        requires { cap ≤ SLOT_LIMIT }
+        requires { cap ≤ 16777215 }
         ensures block { IfOk result (λ b. b.block ≡ empty_block new_header) }
         ensures cap { IfOk result (λ b. b.cap ≡ cap) }
     {
@@ -114,7 +113,7 @@ impl Block {
     /// [`SLOT_LIMIT`].
     pub fn with_tables(alloc: Global, tables: Tables, cap: u32) -> Result<Block, AllocError>
         requires good { AreTables cap tables }
-        requires limit { cap ≤ SLOT_LIMIT }
+        requires limit { cap ≤ 16777215 }
         ensures block { IfOk result (λ b. b.block ≡ tables) }
         ensures cap { IfOk result (λ b. b.cap ≡ cap) }
     {
@@ -158,7 +157,7 @@ impl Block {
     /// The greatest number of slots in a table.
     pub fn cap(&self) -> u32
         ensures cap { result ≡ self.now.cap }
-        ensures limit { result ≤ SLOT_LIMIT }
+        ensures limit { result ≤ 16777215 }
     {
         self.cap
     }

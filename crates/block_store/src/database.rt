@@ -1,11 +1,7 @@
 ghost use Rattle.std.specs.Prelude.{◌≡◌, ◌≤◌, ◌<◌, ◌+◌, None, IfOk, OnErr, OnOk, length};
 ghost use Rattle.tech.specs.Technology.{find_layer, find_site, find_via, with_layer, with_site, with_units, with_via};
-ghost use Rattle.tech.specs.declared.tech.TheConstants.{LIST_LIMIT};
 ghost use Rattle.library.specs.Masters.{find_master};
-ghost use Rattle.library.specs.declared.library.TheConstants.{MASTER_LIMIT};
 ghost use Rattle.lawful_parts.specs.Lawful.{IsLayer, IsMaster, IsSite, IsTechVia};
-ghost use Rattle.lawful_parts.specs.declared.shapes.TheConstants.{UNIT_LIMIT};
-ghost use Rattle.block_store.specs.declared.block.TheConstants.{SLOT_LIMIT};
 
 use crate::block::Block;
 use library::{Library, Master};
@@ -40,7 +36,7 @@ impl Database {
     /// The database without masters and objects, whose tables have at most `cap` slots each, at most
     /// [`SLOT_LIMIT`](crate::block::SLOT_LIMIT).
     pub fn new(alloc: Global, cap: u32) -> Result<Database, AllocError>
-        requires { cap ≤ SLOT_LIMIT }
+        requires { cap ≤ 16777215 }
         ensures { IfOk result (λ d. d ≡ empty_database cap) }
     {
         Ok(Database {
@@ -64,7 +60,7 @@ impl Database {
 
     /// States so many database units per micron, 0 for none.
     pub fn set_units(&mut self, n: u32)
-        requires { n ≤ UNIT_LIMIT }
+        requires { n ≤ 100000 }
         ensures { self.new ≡ with_tech (with_units n self.old.tech) self.old }
     {
         self.tech.set_units(n);
@@ -74,7 +70,7 @@ impl Database {
     pub fn add_layer(&mut self, layer: Layer) -> Result<LayerId, AllocError>
         requires lawful { IsLayer layer }
         requires new { find_layer self.old.tech layer.name ≡ None }
-        requires room { length self.old.tech.layers < LIST_LIMIT }
+        requires room { length self.old.tech.layers < 1000000 }
         ensures ok { OnOk result (self.new ≡ with_tech (with_layer layer self.old.tech) self.old) }
         ensures id { IfOk result (λ id. id.0 ≡ length self.old.tech.layers + 1) }
         ensures err { OnErr result (self.new ≡ self.old) }
@@ -87,7 +83,7 @@ impl Database {
     pub fn add_via(&mut self, via: TechVia) -> Result<ViaId, AllocError>
         requires lawful { IsTechVia self.old.tech via }
         requires new { find_via self.old.tech via.name ≡ None }
-        requires room { length self.old.tech.vias < LIST_LIMIT }
+        requires room { length self.old.tech.vias < 1000000 }
         ensures ok { OnOk result (self.new ≡ with_tech (with_via via self.old.tech) self.old) }
         ensures id { IfOk result (λ id. id.0 ≡ length self.old.tech.vias + 1) }
         ensures err { OnErr result (self.new ≡ self.old) }
@@ -100,7 +96,7 @@ impl Database {
     pub fn add_site(&mut self, site: Site) -> Result<SiteId, AllocError>
         requires lawful { IsSite site }
         requires new { find_site self.old.tech site.name ≡ None }
-        requires room { length self.old.tech.sites < LIST_LIMIT }
+        requires room { length self.old.tech.sites < 1000000 }
         ensures ok { OnOk result (self.new ≡ with_tech (with_site site self.old.tech) self.old) }
         ensures id { IfOk result (λ id. id.0 ≡ length self.old.tech.sites + 1) }
         ensures err { OnErr result (self.new ≡ self.old) }
@@ -114,7 +110,7 @@ impl Database {
     pub fn add_master(&mut self, master: Master) -> Result<MasterId, AllocError>
         requires lawful { IsMaster self.old.tech master }
         requires new { find_master self.old.library master.name ≡ None }
-        requires room { length self.old.library < MASTER_LIMIT }
+        requires room { length self.old.library < 1000000 }
         ensures ok { OnOk result (self.new ≡ with_master master self.old) }
         ensures id { IfOk result (λ id. id.0 ≡ length self.old.library + 1) }
         ensures err { OnErr result (self.new ≡ self.old) }

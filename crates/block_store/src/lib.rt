@@ -51,6 +51,3 @@ pub use live::Live;
 pub use names::Named;
 pub use tables::{PlainTable, Tables};
 pub use walk::Walk;
-
-#[cfg(test)]
-mod tests;

@@ -1,6 +1,5 @@
 ghost use Rattle.std.specs.Prelude.{◌≡◌, ◌≤◌, ℕ, None, Some, IfErr, IfOk, OnOk};
 ghost use Rattle.odb_base.specs.declared.codes.kind.Kind.{Kind as AnyKind};
-ghost use Rattle.block_store.specs.declared.block.TheConstants.{SLOT_LIMIT};
 ghost use Rattle.block_store.specs.Block.{slots_in};
 ghost use Rattle.block_tables.specs.Causes.{IsCause};
 ghost use Rattle.block_tables.specs.Places.{IsFirstFault};
@@ -18,7 +17,7 @@ use std::alloc::{AllocError, Global};
 
 // Judges each part of the tables, in the order of places.
 pub(crate) fn check(alloc: Global, tables: &Tables, library: &Library) -> Result<(), TablesFault>
-    requires few { (k : AnyKind) → slots_in k tables.now ≤ SLOT_LIMIT }
+    requires few { (k : AnyKind) → slots_in k tables.now ≤ 16777215 }
     ensures ok { OnOk result ((cap : ℕ) → ((k : AnyKind) → slots_in k tables.now ≤ cap) → AreSoundParts library.now cap tables.now) }
     ensures err { IfErr result (λ fault. (cap : ℕ) → ((k : AnyKind) → slots_in k tables.now ≤ cap) → IsCause library.now cap tables.now fault) }
 {
@@ -32,7 +31,7 @@ pub(crate) fn check(alloc: Global, tables: &Tables, library: &Library) -> Result
 // Judges each kind, in the order of their codes.
 fn check_kinds(alloc: Global, judge: &Judge<'_>) -> Result<(), TablesFault>
     requires prepared { IsPrepared judge.now }
-    requires few { (k : AnyKind) → slots_in k judge.now.tables.now ≤ SLOT_LIMIT }
+    requires few { (k : AnyKind) → slots_in k judge.now.tables.now ≤ 16777215 }
     ensures ok { OnOk result ((cap : ℕ) → ((k : AnyKind) → slots_in k judge.now.tables.now ≤ cap) → (k : AnyKind) → IsSoundKind judge.now.library.now cap judge.now.tables.now k) }
     ensures err { IfErr result (λ fault. (cap : ℕ) → ((k : AnyKind) → slots_in k judge.now.tables.now ≤ cap) → IsSoundHeader judge.now.library.now judge.now.tables.now → IsCause judge.now.library.now cap judge.now.tables.now fault) }
 {
@@ -51,7 +50,7 @@ fn check_kinds(alloc: Global, judge: &Judge<'_>) -> Result<(), TablesFault>
 // The first place of a kind that isn't sound: 0 for the table.
 fn fault_in(alloc: Global, judge: &Judge<'_>, kind: Kind) -> Result<Option<u32>, AllocError>
     requires prepared { IsPrepared judge.now }
-    requires few { slots_in kind judge.now.tables.now ≤ SLOT_LIMIT }
+    requires few { slots_in kind judge.now.tables.now ≤ 16777215 }
     ensures none { IfOk result (λ found. found ≡ None → (cap : ℕ) → slots_in kind judge.now.tables.now ≤ cap → IsSoundKind judge.now.library.now cap judge.now.tables.now kind) }
     ensures first { IfOk result (λ found. (id : ℕ) → found ≡ Some id → (cap : ℕ) → slots_in kind judge.now.tables.now ≤ cap → IsFirstFault judge.now.library.now cap judge.now.tables.now kind id) }
 {

@@ -1,6 +1,5 @@
 ghost use Rattle.std.specs.Prelude.{◌≡◌, ◌≤◌, IfErr, IfOk, OnOk};
 ghost use Rattle.odb_base.specs.declared.codes.kind.Kind.{Kind as AnyKind};
-ghost use Rattle.block_store.specs.declared.block.TheConstants.{SLOT_LIMIT};
 ghost use Rattle.block_store.specs.Block.{slots_in};
 ghost use Rattle.block_store.specs.Sound.{IsSound};
 ghost use Rattle.block_store.specs.Store.{Store};
@@ -29,7 +28,7 @@ pub trait FromTables {
         cap: u32,
     ) -> Result<Self, TablesFault>
         requires within { (k : AnyKind) → slots_in k tables ≤ cap }
-        requires limit { cap ≤ SLOT_LIMIT }
+        requires limit { cap ≤ 16777215 }
         ensures sound { OnOk result (IsSound tech.now library.now cap tables) }
         ensures block { IfOk result (λ made. (store made).block ≡ tables) }
         ensures cap { IfOk result (λ made. (store made).cap ≡ cap) }

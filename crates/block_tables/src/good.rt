@@ -1,5 +1,4 @@
 ghost use Rattle.std.specs.Prelude.{◌≡◌, ◌↔◌, ◌+◌, ◌≤◌, ℕ, All, IfOk, IsTrue, length, slice_index};
-ghost use Rattle.block_store.specs.declared.block.TheConstants.{SLOT_LIMIT};
 ghost use Rattle.block_store.specs.Block.{slots_in};
 ghost use Rattle.block_store.specs.Sound.{IsTable};
 ghost use Rattle.block_tables.specs.Rules.{IsSoundTable};
@@ -12,7 +11,7 @@ use std::alloc::{AllocError, Global};
 
 // Whether a table is good. The cap on its slots is for the caller.
 pub(crate) fn is_table<T>(alloc: Global, table: &PlainTable<T>) -> Result<bool, AllocError>
-    requires { length table.now.slots ≤ SLOT_LIMIT }
+    requires { length table.now.slots ≤ 16777215 }
     ensures { IfOk result (λ good. (cap : ℕ) → length table.now.slots ≤ cap → (IsTrue good ↔ IsTable cap table.now)) }
 {
     has_good_slots(alloc, table.slots(), table.free())
@@ -20,7 +19,7 @@ pub(crate) fn is_table<T>(alloc: Global, table: &PlainTable<T>) -> Result<bool, 
 
 // Whether the free list holds the identifier of each empty slot exactly once and no other.
 fn has_good_slots<T>(alloc: Global, slots: &[Option<T>], free: &[u32]) -> Result<bool, AllocError>
-    requires { length slots.now ≤ SLOT_LIMIT }
+    requires { length slots.now ≤ 16777215 }
     ensures { IfOk result (λ good. IsTrue good ↔ IsGood (record { slots = slots.now; free = free.now })) }
 {
     let counts = tally(alloc, free, slots.len() + 1)?;
@@ -52,7 +51,7 @@ fn are_free_once<T>(slots: &[Option<T>], counts: &[u8]) -> bool
 
 // Whether the table of a kind is good, or empty if the kind is still to come.
 pub(crate) fn is_sound_table(alloc: Global, tables: &Tables, kind: Kind) -> Result<bool, AllocError>
-    requires { slots_in kind tables.now ≤ SLOT_LIMIT }
+    requires { slots_in kind tables.now ≤ 16777215 }
     ensures { IfOk result (λ sound. (cap : ℕ) → slots_in kind tables.now ≤ cap → (IsTrue sound ↔ IsSoundTable cap tables.now kind)) }
 {
     match kind {

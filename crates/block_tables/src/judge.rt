@@ -1,6 +1,5 @@
 ghost use Rattle.std.specs.Prelude.{◌≡◌, ◌≢◌, ◌↔◌, ◌+◌, ◌<◌, ◌≤◌, ℕ, IfNone, IfOk, IfSome, IsTrue, OnOk, None, Some};
 ghost use Rattle.slot_pool.specs.Table.{record_at, times};
-ghost use Rattle.block_store.specs.declared.block.TheConstants.{SLOT_LIMIT};
 ghost use Rattle.block_store.specs.Block.{slots_in};
 ghost use Rattle.block_store.specs.Sound.{IsNet, net_terms};
 ghost use Rattle.block_tables.specs.Indexes.{CountsStanding};
@@ -39,9 +38,9 @@ impl<'a> Judge<'a> {
         tables: &'a Tables,
         library: &'a Library,
     ) -> Result<Judge<'a>, AllocError>
-        requires iterms { slots_in Kind.ITerm tables.now ≤ SLOT_LIMIT }
-        requires nets { slots_in Kind.Net tables.now ≤ SLOT_LIMIT }
-        requires bterms { slots_in Kind.BTerm tables.now ≤ SLOT_LIMIT }
+        requires iterms { slots_in Kind.ITerm tables.now ≤ 16777215 }
+        requires nets { slots_in Kind.Net tables.now ≤ 16777215 }
+        requires bterms { slots_in Kind.BTerm tables.now ≤ 16777215 }
         ensures prepared { IfOk result (λ judge. IsPrepared judge) }
         ensures tables { IfOk result (λ judge. judge.tables.now ≡ tables.now) }
         ensures library { IfOk result (λ judge. judge.library.now ≡ library.now) }
@@ -60,7 +59,7 @@ impl<'a> Judge<'a> {
     #[tactic(auto, using(crate::proofs::Beyond::at_zero, crate::proofs::Beyond::past_slots))]
     pub fn first_unsound(&self, kind: Kind) -> Option<u32>
         requires prepared { IsPrepared self.now }
-        requires few { slots_in kind self.now.tables.now ≤ SLOT_LIMIT }
+        requires few { slots_in kind self.now.tables.now ≤ 16777215 }
         ensures none { IfNone result ((id : ℕ) → IsSoundRecord self.now.library.now self.now.tables.now kind id) }
         ensures some { IfSome result (λ id. 1 ≤ id) }
         ensures this { IfSome result (λ id. ¬ (IsSoundRecord self.now.library.now self.now.tables.now kind id)) }

@@ -30,6 +30,3 @@ pub use caps::fits;
 pub use fault::TablesFault;
 pub use from_tables::FromTables;
 pub use laws::soundness_by_parts;
-
-#[cfg(test)]
-mod tests;

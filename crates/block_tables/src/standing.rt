@@ -1,5 +1,4 @@
 ghost use Rattle.std.specs.Prelude.{◌≡◌, ◌≢◌, ◌+◌, ◌*◌, ◌<◌, ◌≤◌, ◌==◌, ◌^◌, ℕ, IfOk, length, min, slice_index, if◌then◌else◌};
-ghost use Rattle.block_store.specs.declared.block.TheConstants.{SLOT_LIMIT};
 ghost use Rattle.block_store.specs.Sound.{bterm_net, iterm_net, net_terms};
 ghost use Rattle.block_tables.specs.Counting.{often};
 ghost use Rattle.block_tables.specs.Indexes.{CountsStanding};
@@ -12,9 +11,9 @@ use std::alloc::{AllocError, Global};
 // How often each terminal stands in the list of the net that it names, counted up to two, by the numbers of
 // terminals.
 pub(crate) fn standing(alloc: Global, tables: &Tables) -> Result<Vec<u8>, AllocError>
-    requires iterms { length tables.now.iterm.slots ≤ SLOT_LIMIT }
-    requires nets { length tables.now.net.slots ≤ SLOT_LIMIT }
-    requires bterms { length tables.now.bterm.slots ≤ SLOT_LIMIT }
+    requires iterms { length tables.now.iterm.slots ≤ 16777215 }
+    requires nets { length tables.now.net.slots ≤ 16777215 }
+    requires bterms { length tables.now.bterm.slots ≤ 16777215 }
     ensures { IfOk result (λ counts. CountsStanding tables.now counts.items) }
 {
     let limit = 2 * tables.iterm.slots().len().max(tables.bterm.slots().len()) + 2;

@@ -20,6 +20,3 @@ pub use part::TechPart;
 pub use refusal::Refusal;
 pub use step::Step;
 pub use tag::Tag;
-
-#[cfg(test)]
-mod tests;

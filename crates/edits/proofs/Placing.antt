@@ -7,16 +7,15 @@ use Rattle.odb_base.specs.declared.codes.orient.Orient.{Orient}
 use Rattle.odb_base.specs.declared.codes.orient.Orient.TheVariants as orient
 use Rattle.odb_base.specs.declared.codes.place_status.PlaceStatus.{PlaceStatus}
 use Rattle.odb_base.specs.declared.codes.place_status.PlaceStatus.TheVariants as status
-use Rattle.odb_base.specs.declared.geometry.TheConstants.{COORDINATE_LIMIT}
 use Rattle.block_store.specs.Sound.{IsPlacement, unplaced}
 use Rattle.edits.specs.Plan.{fits_status, is_coordinate, is_north, is_zero}
 
 pub lawful_coordinate : (n : ℤ) → is_coordinate n ≡ true → IsCoordinate n
 lawful_coordinate (pos n) h =
-    let within : n ≤ COORDINATE_LIMIT = leb-true n COORDINATE_LIMIT h in
+    let within : n ≤ 2000000000 = leb-true n 2000000000 h in
     (omega (arith, ints), omega (arith, ints))
 lawful_coordinate (negsuc n) h =
-    let within : n < COORDINATE_LIMIT = ltb-true n COORDINATE_LIMIT h in
+    let within : n < 2000000000 = ltb-true n 2000000000 h in
     (omega (arith, ints), omega (arith, ints))
 
 zero_is : (n : ℤ) → is_zero n ≡ true → n ≡ pos 0

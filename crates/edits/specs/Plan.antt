@@ -13,7 +13,6 @@ use Rattle.odb_base.specs.declared.codes.orient.Orient.TheVariants as orient
 use Rattle.odb_base.specs.declared.codes.place_status.PlaceStatus.{PlaceStatus}
 use Rattle.odb_base.specs.declared.codes.place_status.PlaceStatus.TheVariants as status
 use Rattle.odb_base.specs.declared.codes.usage.Usage.{Usage}
-use Rattle.odb_base.specs.declared.geometry.TheConstants.{COORDINATE_LIMIT}
 use Rattle.library.specs.Masters.{find_master, master_at}
 use Rattle.library.specs.Terminals.{term_index}
 use Rattle.library.specs.declared.master.Master.{Master}
@@ -172,8 +171,8 @@ plan_swap library b inst master = do
 
 -- the number is within the limit of coordinates
 abbrev pub is_coordinate : ℤ → Bool
-is_coordinate (pos n) = nat_le n COORDINATE_LIMIT
-is_coordinate (negsuc n) = nat_lt n COORDINATE_LIMIT
+is_coordinate (pos n) = nat_le n 2000000000
+is_coordinate (negsuc n) = nat_lt n 2000000000
 
 -- the coordinate at this place of the line
 abbrev pub coordinate : ℤ → ℕ → Result ℤ Refusal

@@ -11,15 +11,11 @@ use Rattle.odb_base.specs.declared.geometry.Shape.{Shape}
 use Rattle.tech.specs.Technology.{HasDistinctParts, HasFewParts, Technology}
 use Rattle.tech.specs.declared.layer.Layer.{Layer}
 use Rattle.tech.specs.declared.site.Site.{Site}
-use Rattle.tech.specs.declared.tech.TheConstants.{LIST_LIMIT}
 use Rattle.tech.specs.declared.via.TechVia.{TechVia}
 use Rattle.library.specs.Masters.{HasDistinctNames}
 use Rattle.library.specs.Terminals.{HasDistinctTerminals}
-use Rattle.library.specs.declared.library.TheConstants.{MASTER_LIMIT}
 use Rattle.library.specs.declared.master.Master.{Master}
 use Rattle.library.specs.declared.mterm.MTerm.{MTerm}
-use Rattle.lawful_parts.specs.declared.master.TheConstants.{TERMINAL_LIMIT}
-use Rattle.lawful_parts.specs.declared.shapes.TheConstants.{SHAPE_LIMIT, UNIT_LIMIT}
 
 -- the identifier is that of one of so many things
 abbrev pub IsIdAmong : ℕ → ℕ → Type 0
@@ -44,7 +40,7 @@ pub record IsShape (t : Technology) (s : Shape) : Type 0 where
 
 -- shapes are at most 1,000,000 in one list
 pub record AreShapes (t : Technology) (shapes : List Shape) : Type 0 where
-  pub few : length shapes ≤ SHAPE_LIMIT
+  pub few : length shapes ≤ 1000000
   pub each : AreAll (IsShape t) shapes
 
 -- the orientation of this word, if it is one
@@ -70,12 +66,12 @@ pub record IsSite (s : Site) : Type 0 where
 
 -- A technology has lawful units and lawful parts, of which no two of a list have one name.
 pub record IsTechnology (t : Technology) : Type 0 where
-  pub units : t.units ≤ UNIT_LIMIT
+  pub units : t.units ≤ 100000
   pub layers : AreAll IsLayer t.layers
   pub vias : AreAll (IsTechVia t) t.vias
   pub sites : AreAll IsSite t.sites
   pub distinct : HasDistinctParts t
-  pub few : HasFewParts LIST_LIMIT t
+  pub few : HasFewParts 1000000 t
 
 -- a terminal of a master has a lawful name and lawful shapes
 pub record IsMTerm (t : Technology) (m : MTerm) : Type 0 where
@@ -94,7 +90,7 @@ pub record IsMaster (t : Technology) (m : Master) : Type 0 where
   pub height : IsCoordinate m.height
   pub symmetry : m.symmetry < 8
   pub site : m.site ≤ length t.sites
-  pub few : length m.terminals ≤ TERMINAL_LIMIT
+  pub few : length m.terminals ≤ 65535
   pub terminals : AreAll (IsMTerm t) m.terminals
   pub distinct : HasDistinctTerminals m
   pub obstructions : AreShapes t m.obstructions
@@ -103,4 +99,4 @@ pub record IsMaster (t : Technology) (m : Master) : Type 0 where
 pub record IsLibrary (t : Technology) (library : List Master) : Type 0 where
   pub masters : AreAll (IsMaster t) library
   pub distinct : HasDistinctNames library
-  pub few : length library ≤ MASTER_LIMIT
+  pub few : length library ≤ 1000000

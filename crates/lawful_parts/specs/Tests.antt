@@ -5,7 +5,6 @@ use Rattle.std.specs.Str.{bytes_eq}
 use Rattle.odb_base.specs.Name.{name_fault}
 use Rattle.odb_base.specs.declared.geometry.Rect.{Rect}
 use Rattle.odb_base.specs.declared.geometry.Shape.{Shape}
-use Rattle.odb_base.specs.declared.geometry.TheConstants.{COORDINATE_LIMIT}
 use Rattle.tech.specs.Technology.{Technology}
 use Rattle.tech.specs.declared.layer.Layer.{Layer}
 use Rattle.tech.specs.declared.site.Site.{Site}
@@ -13,13 +12,11 @@ use Rattle.tech.specs.declared.via.TechVia.{TechVia}
 use Rattle.library.specs.declared.master.Master.{Master}
 use Rattle.library.specs.declared.mterm.MTerm.{MTerm}
 use Rattle.lawful_parts.specs.Lawful.{orient_of}
-use Rattle.lawful_parts.specs.declared.master.TheConstants.{TERMINAL_LIMIT}
-use Rattle.lawful_parts.specs.declared.shapes.TheConstants.{SHAPE_LIMIT}
 
 -- the number is within the limit of coordinates
 abbrev pub is_coordinate : ℤ → Bool
-is_coordinate (pos n) = nat_le n COORDINATE_LIMIT
-is_coordinate (negsuc n) = nat_lt n COORDINATE_LIMIT
+is_coordinate (pos n) = nat_le n 2000000000
+is_coordinate (negsuc n) = nat_lt n 2000000000
 
 -- the name is lawful
 abbrev pub is_name : List ℕ → Bool
@@ -50,7 +47,7 @@ abbrev pub is_shape : Technology → Shape → Bool
 is_shape t s = is_id_among (length t.layers) s.layer.0 && is_rect s.rect
 
 unfoldable pub are_shapes : Technology → List Shape → Bool
-are_shapes t shapes = nat_le (length shapes) SHAPE_LIMIT && list_all (is_shape t) shapes
+are_shapes t shapes = nat_le (length shapes) 1000000 && list_all (is_shape t) shapes
 
 unfoldable pub is_layer : Layer → Bool
 is_layer l = is_name l.name && is_coordinate l.pitch_x && is_coordinate l.pitch_y && is_coordinate l.width && is_coordinate l.spacing
@@ -76,7 +73,7 @@ abbrev pub has_lawful_texts : Master → Bool
 has_lawful_texts m = is_name m.name && nat_lt (length m.class) (2 ^ 32) && nat_lt (length m.foreign) (2 ^ 32)
 
 abbrev pub has_lawful_terminals : Technology → Master → Bool
-has_lawful_terminals t m = nat_le (length m.terminals) TERMINAL_LIMIT && list_all (is_mterm t) m.terminals && are_distinct m.terminals
+has_lawful_terminals t m = nat_le (length m.terminals) 65535 && list_all (is_mterm t) m.terminals && are_distinct m.terminals
 
 abbrev pub has_lawful_rest : Technology → Master → Bool
 has_lawful_rest t m = nat_lt m.symmetry 8 && nat_le m.site (length t.sites) && are_shapes t m.obstructions

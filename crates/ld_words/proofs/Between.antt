@@ -6,7 +6,6 @@ use Rattle.std.proofs.lemmas.List.Sums.{passes_at_first, prefix_len-le-length}
 use Rattle.ld_words.specs.declared.input.Input.{Input}
 use Rattle.ld_words.specs.declared.word.Word.{Word}
 use Rattle.ld_words.specs.declared.word.WordFault.TheVariants as fault
-use Rattle.ld_words.specs.declared.word.TheConstants.{TEXT_LIMIT}
 use Rattle.ld_words.specs.Input.{BeginsComment, Continues, Finishes, Grew, IsLast, IsPast, Moved, Stays, reading_at}
 use Rattle.ld_words.specs.Reading.{Between, Comment, Goes, Place, Plain, Quoted, Reading, done, faulty, is_blank, is_line_feed, is_quote, line_after, line_feeds, longer, opens_comment, read, reading_of, word_on}
 use Rattle.ld_words.specs.Told.{SameIfTold}
@@ -90,7 +89,7 @@ finished left old new none stays last =
 
 -- one byte too many between words
 past_between_by : (blank sharp quote : Bool) (word : Word) (line : ℕ) (next : Place → Reading)
-    → faulty (fault.TooLong line) ≡ reading_of (cond blank (Goes Between) (cond sharp (Goes Comment) (cond quote (Goes (Quoted word)) (Goes (Plain word))))) line TEXT_LIMIT next
+    → faulty (fault.TooLong line) ≡ reading_of (cond blank (Goes Between) (cond sharp (Goes Comment) (cond quote (Goes (Quoted word)) (Goes (Plain word))))) line 4294967295 next
 past_between_by true sharp quote word line next = refl
 past_between_by false true quote word line next = refl
 past_between_by false false true word line next = refl
@@ -98,7 +97,7 @@ past_between_by false false false word line next = refl
 
 -- one byte too many in a comment
 past_comment_by : (line_feed : Bool) (line : ℕ) (next : Place → Reading)
-    → faulty (fault.TooLong line) ≡ reading_of (cond line_feed (Goes Between) (Goes Comment)) line TEXT_LIMIT next
+    → faulty (fault.TooLong line) ≡ reading_of (cond line_feed (Goes Between) (Goes Comment)) line 4294967295 next
 past_comment_by true line next = refl
 past_comment_by false line next = refl
 
@@ -108,10 +107,10 @@ pub past_between : {S : Type 0} (left : S → Option (List ℕ)) (old new : Inpu
 unfolding read
 past_between left old new b none past =
     let line = old.line in
-    let full : old.taken ≡ TEXT_LIMIT = omega (arith, past.full, ap length none) in
+    let full : old.taken ≡ 4294967295 = omega (arith, past.full, ap length none) in
     let word : Word = longer (word_on line) (b ∷ []) in (
       read_all (read Between line old.taken) (faulty (fault.TooLong line)) old.window (old.window ++ b ∷ []) (left old.source) (left new.source) past.bytes
-          (λ l. rw (none, full) (past_between_by (is_blank b) (opens_comment b) (is_quote b) word line (λ next. read next (line_after line b) (TEXT_LIMIT + 1) l))),
+          (λ l. rw (none, full) (past_between_by (is_blank b) (opens_comment b) (is_quote b) word line (λ next. read next (line_after line b) (4294967295 + 1) l))),
       read_all (read Comment line old.taken) (faulty (fault.TooLong line)) old.window (old.window ++ b ∷ []) (left old.source) (left new.source) past.bytes
-          (λ l. rw (none, full) (past_comment_by (is_line_feed b) line (λ next. read next (line_after line b) (TEXT_LIMIT + 1) l))),
+          (λ l. rw (none, full) (past_comment_by (is_line_feed b) line (λ next. read next (line_after line b) (4294967295 + 1) l))),
     )

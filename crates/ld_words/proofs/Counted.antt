@@ -1,7 +1,6 @@
 -- The line on which a text ends.
 use Rattle.std.proofs.Common.{ℕ, ◌+◌, true, false, cond, List, [], ◌∷◌, eqb, arith}
 use Rattle.ld_words.specs.declared.word.WordFault.TheVariants as fault
-use Rattle.ld_words.specs.declared.word.TheConstants.{TEXT_LIMIT}
 use Rattle.ld_words.specs.Laws.{EndsOn, LinesAreCounted}
 use Rattle.ld_words.specs.Reading.{Between, Comment, Ends, Goes, Long, Place, Plain, Quoted, Reading, Step, faulty, line_after, line_feeds, read, reading_of, step, with_word}
 use Rattle.ld_words.proofs.Runs.{line_feeds-cons}
@@ -10,9 +9,9 @@ use Rattle.ld_words.proofs.Runs.{line_feeds-cons}
 step_counted : (s : Step) (line taken end : ℕ) (next : Place → Reading) → ((place : Place) → EndsOn (next place).ending end)
     → EndsOn (reading_of s line taken next).ending end
 step_counted (Goes place) line taken end next rest =
-    elim (eqb taken TEXT_LIMIT) as (λ b. EndsOn (cond b (faulty (fault.TooLong line)) (next place)).ending end) [ true ↦ tt | false ↦ rest place ]
+    elim (eqb taken 4294967295) as (λ b. EndsOn (cond b (faulty (fault.TooLong line)) (next place)).ending end) [ true ↦ tt | false ↦ rest place ]
 step_counted (Ends word) line taken end next rest =
-    elim (eqb taken TEXT_LIMIT) as (λ b. EndsOn (cond b (faulty (fault.TooLong line)) (with_word word (next Between))).ending end) [ true ↦ tt | false ↦ rest Between ]
+    elim (eqb taken 4294967295) as (λ b. EndsOn (cond b (faulty (fault.TooLong line)) (with_word word (next Between))).ending end) [ true ↦ tt | false ↦ rest Between ]
 step_counted (Long word) line taken end next rest = tt
 
 -- from any place on

@@ -4,7 +4,6 @@ use Rattle.std.proofs.lemmas.Bool.Decides.{nat_tests}
 use Rattle.std.proofs.lemmas.List.{append-nil}
 use Rattle.std.proofs.lemmas.List.Sums.{sum_by-cons}
 use Rattle.std.specs.List.{list_all}
-use Rattle.ld_words.specs.declared.word.TheConstants.{TEXT_LIMIT, WORD_LIMIT}
 use Rattle.ld_words.proofs.Places.{both, denied}
 use Rattle.ld_words.specs.Reading.{Between, Comment, Place, Plain, Quoted, is_blank, is_line_feed, is_quote, line_after, line_feeds, read}
 
@@ -47,11 +46,11 @@ pub same_place : (place : Place) (line line' taken taken' : ℕ) (bytes : List �
 same_place place line line' taken taken' bytes e f = ap (λ n. read place n taken bytes) e ∙ ap (λ n. read place line' n bytes) f
 
 -- the text is not full before a byte of a run that fits
-more_fit : (taken n : ℕ) → taken + suc n ≤ TEXT_LIMIT → eqb taken TEXT_LIMIT ≡ false
-more_fit taken n fits = differs taken TEXT_LIMIT (omega arith)
+more_fit : (taken n : ℕ) → taken + suc n ≤ 4294967295 → eqb taken 4294967295 ≡ false
+more_fit taken n fits = differs taken 4294967295 (omega arith)
 
 -- blanks
-pub read-blanks : (line taken : ℕ) (run rest : List ℕ) → list_all is_blank run ≡ true → taken + length run ≤ TEXT_LIMIT
+pub read-blanks : (line taken : ℕ) (run rest : List ℕ) → list_all is_blank run ≡ true → taken + length run ≤ 4294967295
     → read Between line taken (run ++ rest) ≡ read Between (line + line_feeds run) (taken + length run) rest
 unfolding read
 read-blanks line taken [] rest h fits = same_place Between line (line + 0) taken (taken + 0) rest (omega arith) (omega arith)
@@ -62,7 +61,7 @@ read-blanks line taken (b ∷ run) rest h fits =
     ∙ same_place Between _ _ _ _ rest (line_feeds-cons line b run) (omega arith))
 
 -- the bytes of a comment
-pub read-comment : (line taken : ℕ) (run rest : List ℕ) → list_all (λ b. not (is_line_feed b)) run ≡ true → taken + length run ≤ TEXT_LIMIT
+pub read-comment : (line taken : ℕ) (run rest : List ℕ) → list_all (λ b. not (is_line_feed b)) run ≡ true → taken + length run ≤ 4294967295
     → read Comment line taken (run ++ rest) ≡ read Comment line (taken + length run) rest
 unfolding read
 read-comment line taken [] rest h fits = same_place Comment line line taken (taken + 0) rest refl (omega arith)
@@ -75,7 +74,7 @@ read-comment line taken (b ∷ run) rest h fits =
 
 -- the bytes of a plain word
 pub read-plain : (at : ℕ) (bytes : List ℕ) (line taken : ℕ) (run rest : List ℕ) → list_all (λ b. not (is_blank b)) run ≡ true
-    → length bytes + length run ≤ WORD_LIMIT → taken + length run ≤ TEXT_LIMIT
+    → length bytes + length run ≤ 65535 → taken + length run ≤ 4294967295
     → read (Plain (record { bytes = bytes; line = at })) line taken (run ++ rest)
     ≡ read (Plain (record { bytes = bytes ++ run; line = at })) line (taken + length run) rest
 unfolding read
@@ -84,7 +83,7 @@ read-plain at bytes line taken [] rest h short fits =
 read-plain at bytes line taken (b ∷ run) rest h short fits =
     let parts = both (not (is_blank b)) (list_all (λ x. not (is_blank x)) run) h in
     let f : is_blank b ≡ false = denied _ parts.0 in
-    let room : eqb (length bytes) WORD_LIMIT ≡ false = differs (length bytes) WORD_LIMIT (omega arith) in
+    let room : eqb (length bytes) 65535 ≡ false = differs (length bytes) 65535 (omega arith) in
     rw (f, room, more_fit taken (length run) fits, no_line_feed b f)
     (read-plain at (bytes ++ b ∷ []) line (taken + 1) run rest parts.1 (omega (arith, length-append bytes (b ∷ []))) (omega arith)
     ∙ ap (λ l. read (Plain (record { bytes = l; line = at })) line (taken + 1 + length run) rest) (append_assoc bytes (b ∷ []) run)
@@ -92,7 +91,7 @@ read-plain at bytes line taken (b ∷ run) rest h short fits =
 
 -- the bytes of a quoted word
 pub read-quoted : (at : ℕ) (bytes : List ℕ) (line taken : ℕ) (run rest : List ℕ) → list_all (λ b. not (is_quote b)) run ≡ true
-    → length bytes + length run ≤ WORD_LIMIT → taken + length run ≤ TEXT_LIMIT
+    → length bytes + length run ≤ 65535 → taken + length run ≤ 4294967295
     → read (Quoted (record { bytes = bytes; line = at })) line taken (run ++ rest)
     ≡ read (Quoted (record { bytes = bytes ++ run; line = at })) (line + line_feeds run) (taken + length run) rest
 unfolding read
@@ -100,7 +99,7 @@ read-quoted at bytes line taken [] rest h short fits =
     rw (append-nil bytes) (same_place (Quoted (record { bytes = bytes; line = at })) line (line + 0) taken (taken + 0) rest (omega arith) (omega arith))
 read-quoted at bytes line taken (b ∷ run) rest h short fits =
     let parts = both (not (is_quote b)) (list_all (λ x. not (is_quote x)) run) h in
-    let room : eqb (length bytes) WORD_LIMIT ≡ false = differs (length bytes) WORD_LIMIT (omega arith) in
+    let room : eqb (length bytes) 65535 ≡ false = differs (length bytes) 65535 (omega arith) in
     rw (room, denied _ parts.0, more_fit taken (length run) fits)
     (read-quoted at (bytes ++ b ∷ []) (line_after line b) (taken + 1) run rest parts.1 (omega (arith, length-append bytes (b ∷ []))) (omega arith)
     ∙ ap (λ l. read (Quoted (record { bytes = l; line = at })) (line_after line b + line_feeds run) (taken + 1 + length run) rest) (append_assoc bytes (b ∷ []) run)

@@ -5,7 +5,6 @@ use Rattle.std.proofs.lemmas.List.{drop_all, get_or_at, take_all, take_at}
 use Rattle.std.proofs.lemmas.List.Sums.{sum_by-append}
 use Rattle.std.specs.List.{AllByRecursion, list_all}
 use Rattle.ld_words.specs.declared.word.Word.{Word}
-use Rattle.ld_words.specs.declared.word.TheConstants.{TEXT_LIMIT, WORD_LIMIT}
 use Rattle.ld_words.specs.Input.{BeginsPlain}
 use Rattle.ld_words.specs.Laws.{IsSpaced, IsWord, SpacedWordsAreRead, is_plain, lined, quoted, spaced}
 use Rattle.ld_words.specs.Reading.{Between, Done, is_blank, is_line_feed, is_quote, line_after, line_feeds, opens_comment, read, with_word}
@@ -22,9 +21,9 @@ line_behind : (line b : ℕ) (bytes : List ℕ) → line_after (line + line_feed
 line_behind line b bytes = omega (arith, line_feeds-append bytes (b ∷ []), line_feeds-cons (line + line_feeds bytes) b [])
 
 -- a blank between words
-blank_read : (line taken b : ℕ) (rest : List ℕ) → is_blank b ≡ true → taken < TEXT_LIMIT → read Between line taken (b ∷ rest) ≡ read Between (line_after line b) (taken + 1) rest
+blank_read : (line taken b : ℕ) (rest : List ℕ) → is_blank b ≡ true → taken < 4294967295 → read Between line taken (b ∷ rest) ≡ read Between (line_after line b) (taken + 1) rest
 unfolding read
-blank_read line taken b rest blank more = let e : eqb taken TEXT_LIMIT ≡ false = grind (arith, nat_tests) in rw (blank, e) refl
+blank_read line taken b rest blank more = let e : eqb taken 4294967295 ≡ false = grind (arith, nat_tests) in rw (blank, e) refl
 
 -- what a plain word is
 plain_parts : (word : List ℕ) → is_plain word ≡ true → BeginsPlain word × (list_all (λ b. not (is_blank b)) word ≡ true)
@@ -36,19 +35,19 @@ plain_parts (b ∷ bytes) h =
     ((denied _ first.0, denied _ marks.0, denied _ marks.1), all.1)
 
 -- a plain word and a blank
-plain_read : (line taken b : ℕ) (word rest : List ℕ) → is_plain word ≡ true → length word ≤ WORD_LIMIT → is_blank b ≡ true → taken + length word < TEXT_LIMIT
+plain_read : (line taken b : ℕ) (word rest : List ℕ) → is_plain word ≡ true → length word ≤ 65535 → is_blank b ≡ true → taken + length word < 4294967295
     → read Between line taken (word ++ b ∷ rest) ≡ with_word (record { bytes = word; line = line }) (read Between (line + line_feeds (word ++ b ∷ [])) (taken + length word + 1) rest)
 unfolding read
 plain_read line taken b word rest plain short blank fits =
     let parts = plain_parts word plain in
     let whole = plain_whole line taken word parts.0 parts.1 short (omega arith) (b ∷ rest) in
-    let more : eqb (taken + length word) TEXT_LIMIT ≡ false = grind (arith, nat_tests) in
+    let more : eqb (taken + length word) 4294967295 ≡ false = grind (arith, nat_tests) in
     let none : line_feeds word ≡ 0 = no_line_feeds word (plain_lines word parts.1) in
     let behind : line_after line b ≡ line + line_feeds (word ++ b ∷ []) = omega (arith, line_feeds-append word (b ∷ []), none, line_feeds-cons line b []) in
     rw (← whole, blank, more) (ap (with_word (record { bytes = word; line = line })) (same_place Between _ _ _ _ rest behind refl))
 
 -- a quoted word and a blank
-quoted_read : (line taken b : ℕ) (inside rest : List ℕ) → list_all (λ c. not (is_quote c)) inside ≡ true → length (quoted inside) ≤ WORD_LIMIT → is_blank b ≡ true → taken + length (quoted inside) < TEXT_LIMIT
+quoted_read : (line taken b : ℕ) (inside rest : List ℕ) → list_all (λ c. not (is_quote c)) inside ≡ true → length (quoted inside) ≤ 65535 → is_blank b ≡ true → taken + length (quoted inside) < 4294967295
     → read Between line taken (quoted inside ++ b ∷ rest) ≡ with_word (record { bytes = quoted inside; line = line }) (read Between (line + line_feeds (quoted inside ++ b ∷ [])) (taken + length (quoted inside) + 1) rest)
 quoted_read line taken b inside rest all short blank fits =
     let word = quoted inside in
@@ -64,16 +63,16 @@ quoted_read line taken b inside rest all short blank fits =
     ∙ same_place Between _ _ _ _ rest (line_behind line b word) (omega (arith, size)))
 
 -- a word and a blank
-word_read : (line taken b : ℕ) (word rest : List ℕ) → IsWord word → length word ≤ WORD_LIMIT → is_blank b ≡ true → taken + length word < TEXT_LIMIT
+word_read : (line taken b : ℕ) (word rest : List ℕ) → IsWord word → length word ≤ 65535 → is_blank b ≡ true → taken + length word < 4294967295
     → read Between line taken (word ++ b ∷ rest) ≡ with_word (record { bytes = word; line = line }) (read Between (line + line_feeds (word ++ b ∷ [])) (taken + length word + 1) rest)
 word_read line taken b word rest (inl plain) short blank fits = plain_read line taken b word rest plain short blank fits
 word_read line taken b word rest (inr q) short blank fits =
-    subst (λ (w : List ℕ). length w ≤ WORD_LIMIT → taken + length w < TEXT_LIMIT
+    subst (λ (w : List ℕ). length w ≤ 65535 → taken + length w < 4294967295
     → read Between line taken (w ++ b ∷ rest) ≡ with_word (record { bytes = w; line = line }) (read Between (line + line_feeds (w ++ b ∷ [])) (taken + length w + 1) rest))
     (sym q.1) (λ s f. quoted_read line taken b q.0 rest q.2 s blank f) short fits
 
 -- words with a blank behind each, from any place between words on
-spaced_read : (line taken : ℕ) (ps : List (List ℕ × ℕ)) → AllByRecursion IsSpaced ps → taken + length (spaced ps) ≤ TEXT_LIMIT
+spaced_read : (line taken : ℕ) (ps : List (List ℕ × ℕ)) → AllByRecursion IsSpaced ps → taken + length (spaced ps) ≤ 4294967295
     → read Between line taken (spaced ps) ≡ record { words = lined line ps; ending = Done (line + line_feeds (spaced ps)) }
 unfolding read
 spaced_read line taken [] h fits = rw add-zero refl

@@ -3,7 +3,6 @@ use Rattle.std.specs.Prelude.{◌+◌, ◌-◌, ◌*◌, ◌/◌, ◌^◌, ◌==
 use Rattle.std.specs.List.{after_first, before_first, list_all}
 use Rattle.ld_words.specs.declared.decimal.NumberFault.{NumberFault}
 use Rattle.ld_words.specs.declared.decimal.NumberFault.TheVariants as fault
-use Rattle.ld_words.specs.declared.decimal.TheConstants.{COORDINATE_LIMIT, DIGIT_LIMIT}
 
 -- a minus sign in front
 abbrev pub is_negative : List ℕ → Bool
@@ -43,7 +42,7 @@ number_of digits = fold with_digit 0 digits
 abbrev pub is_decimal : List ℕ → Bool
 is_decimal text =
     let digits = digits_of text in
-    nat_le 1 (length digits) && nat_le (length digits) DIGIT_LIMIT && list_all is_digit digits
+    nat_le 1 (length digits) && nat_le (length digits) 30 && list_all is_digit digits
 
 -- the whole number nearest to a quotient, and the greater of two that are equally near
 abbrev pub rounded : ℕ → ℕ → ℕ
@@ -55,7 +54,7 @@ signed negative n = if negative then neg_ℤ (pos n) else pos n
 
 -- a number with its sign, where it is a coordinate
 abbrev pub coordinate : Bool → ℕ → Result ℤ NumberFault
-coordinate negative n = if nat_le n COORDINATE_LIMIT then Ok (signed negative n) else Err fault.OutOfRange
+coordinate negative n = if nat_le n 2000000000 then Ok (signed negative n) else Err fault.OutOfRange
 
 -- the magnitude of a decimal in units: its digits as one whole number times the units, over a power of ten,
 -- rounded to the nearest whole number
@@ -76,4 +75,4 @@ number_with number digits = if list_all is_digit digits then Some (fold with_dig
 -- the number that 1 to 30 digits are
 abbrev pub whole_of : List ℕ → Option ℕ
 whole_of digits =
-    if nat_le 1 (length digits) && nat_le (length digits) DIGIT_LIMIT then number_with 0 digits else None
+    if nat_le 1 (length digits) && nat_le (length digits) 30 then number_with 0 digits else None

@@ -5,7 +5,6 @@ use Rattle.ld_words.specs.declared.input.Fill.{Fill}
 use Rattle.ld_words.specs.declared.input.Fill.TheVariants.{More, End, Past}
 use Rattle.ld_words.specs.declared.input.Input.{Input}
 use Rattle.ld_words.specs.declared.word.Word.{Word}
-use Rattle.ld_words.specs.declared.word.TheConstants.{TEXT_LIMIT}
 use Rattle.ld_words.specs.Reading.{Between, Comment, Place, Reading, done, is_blank, is_quote, opens_comment, read, with_word}
 use Rattle.ld_words.specs.Told.{SameIfTold, ahead}
 
@@ -47,7 +46,7 @@ pub record IsLast {S : Type 0} (left : S → Option (List ℕ)) (old new : Input
 -- after the bytes at hand, which are as many as a text may have, there is this one
 pub record IsPast {S : Type 0} (left : S → Option (List ℕ)) (old new : Input S) (byte : ℕ) : Type 0 where
   pub window : new.window ≡ old.window
-  pub full : old.taken + length old.window ≡ TEXT_LIMIT
+  pub full : old.taken + length old.window ≡ 4294967295
   pub bytes : SameIfTold (ahead old.window (left old.source)) (ahead (old.window ++ byte ∷ []) (left new.source))
 
 -- what a read behind the bytes at hand gave

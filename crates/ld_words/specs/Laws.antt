@@ -2,7 +2,6 @@
 use Rattle.std.specs.Prelude.{◌≡◌, ◌+◌, ◌*◌, ◌<◌, ◌≤◌, ◌⊎◌, ◌&&◌, ◌++◌, Bool, true, false, List, [], ◌∷◌, ℕ, ⊤, length, not}
 use Rattle.std.specs.List.{AllByRecursion, list_all}
 use Rattle.ld_words.specs.declared.word.Word.{Word}
-use Rattle.ld_words.specs.declared.word.TheConstants.{TEXT_LIMIT, WORD_LIMIT}
 use Rattle.ld_words.specs.Decimal.{rounded}
 use Rattle.ld_words.specs.Reading.{Done, Ending, Faulty, is_blank, is_quote, line_feeds, opens_comment, words_of}
 
@@ -38,7 +37,7 @@ IsWord bytes =
 
 -- a word that isn't too long, and the blank behind it
 abbrev pub IsSpaced : List ℕ × ℕ → Type 0
-IsSpaced p = IsWord p.0 × (length p.0 ≤ WORD_LIMIT) × (is_blank p.1 ≡ true)
+IsSpaced p = IsWord p.0 × (length p.0 ≤ 65535) × (is_blank p.1 ≡ true)
 
 -- the text of words with a blank behind each
 abbrev pub spaced : List (List ℕ × ℕ) → List ℕ
@@ -53,5 +52,5 @@ lined line (p ∷ ps) = record { bytes = p.0; line = line } ∷ lined (line + li
 -- a text of words with a blank behind each has just these words, each with its line
 abbrev pub SpacedWordsAreRead : Type 0
 SpacedWordsAreRead = (ps : List (List ℕ × ℕ)) → AllByRecursion IsSpaced ps
-    → length (spaced ps) ≤ TEXT_LIMIT
+    → length (spaced ps) ≤ 4294967295
     → words_of (spaced ps) ≡ record { words = lined 1 ps; ending = Done (1 + line_feeds (spaced ps)) }

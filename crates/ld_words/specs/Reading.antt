@@ -3,7 +3,6 @@ use Rattle.std.specs.Prelude.{◌+◌, ◌==◌, ◌||◌, ◌++◌, Bool, List,
 use Rattle.ld_words.specs.declared.word.Word.{Word}
 use Rattle.ld_words.specs.declared.word.WordFault.{WordFault}
 use Rattle.ld_words.specs.declared.word.WordFault.TheVariants as fault
-use Rattle.ld_words.specs.declared.word.TheConstants.{TEXT_LIMIT, WORD_LIMIT}
 
 -- a line ends with a line feed
 abbrev pub is_line_feed : ℕ → Bool
@@ -69,9 +68,9 @@ word_on line = record { bytes = []; line = line }
 abbrev pub longer : Word → List ℕ → Word
 longer word more = record word { bytes = word.bytes ++ more }
 
--- one more byte of a word that has at most WORD_LIMIT of them
+-- one more byte of a word that has at most 65535 of them
 abbrev pub grown : Word → ℕ → (Word → Step) → Step
-grown word b next = if length word.bytes == WORD_LIMIT then Long word else next (longer word (b ∷ []))
+grown word b next = if length word.bytes == 65535 then Long word else next (longer word (b ∷ []))
 
 -- the first byte of a comment or a word
 abbrev pub begun : ℕ → ℕ → Step
@@ -95,9 +94,9 @@ line_after line b = if is_line_feed b then line + 1 else line
 abbrev pub reading_of : Step → ℕ → ℕ → (Place → Reading) → Reading
 reading_of (Long word) line taken next = faulty (fault.LongWord word.line)
 reading_of (Goes place) line taken next =
-    if taken == TEXT_LIMIT then faulty (fault.TooLong line) else next place
+    if taken == 4294967295 then faulty (fault.TooLong line) else next place
 reading_of (Ends word) line taken next =
-    if taken == TEXT_LIMIT then faulty (fault.TooLong line) else with_word word (next Between)
+    if taken == 4294967295 then faulty (fault.TooLong line) else with_word word (next Between)
 
 -- what is read where the text ends
 abbrev pub at_end : Place → ℕ → Reading

@@ -4,7 +4,6 @@ use Rattle.std.specs.Option.{option_map}
 use Rattle.odb_outside.specs.declared.source.Source.{Ghosts}
 use Rattle.ld_words.specs.declared.word.Word.{Word}
 use Rattle.ld_words.specs.declared.word.WordFault.{WordFault}
-use Rattle.ld_words.specs.declared.word.TheConstants.{TEXT_LIMIT}
 use Rattle.ld_words.specs.declared.words.Words.{Words}
 use Rattle.ld_words.specs.Input.{reading_at}
 use Rattle.ld_words.specs.Reading.{Between, Reading, done, faulty, with_word}
@@ -24,7 +23,7 @@ fault_of words = words.fault
 
 -- how many more bytes the text may have; each word lowers it
 abbrev pub room_of : {S : Type 0} {g : Ghosts S} → Words S g → ℕ
-room_of words = TEXT_LIMIT - words.input.taken
+room_of words = 4294967295 - words.input.taken
 
 -- the fault that is kept, or the reading of what is left
 abbrev pub reading_after : Option WordFault → Option Reading → Option Reading

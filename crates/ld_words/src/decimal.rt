@@ -137,7 +137,7 @@ fn nearest(whole: u128, per_micron: u32, places: usize) -> Option<u128>
     requires whole { whole < 10 ^ 30 }
     requires places { places ≤ 30 }
     ensures { let n = rounded (whole * per_micron) (10 ^ places) in
-        result ≡ (if nat_le n COORDINATE_LIMIT then Some n else None) }
+        result ≡ (if nat_le n 2000000000 then Some n else None) }
 {
     let divisor = power_of_ten(places);
     let per_micron = per_micron as u128;
@@ -157,7 +157,7 @@ fn nearest(whole: u128, per_micron: u32, places: usize) -> Option<u128>
 }
 
 fn with_sign(negative: bool, magnitude: u128) -> i64
-    requires { magnitude ≤ COORDINATE_LIMIT }
+    requires { magnitude ≤ 2000000000 }
     ensures { result ≡ signed negative magnitude }
 {
     let number = magnitude as i64;

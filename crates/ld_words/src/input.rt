@@ -1,5 +1,4 @@
 ghost use Rattle.std.specs.Prelude.{◌≡◌, ◌+◌, ◌<◌, ◌≤◌, ◌↔◌, ◌==◌, ◌&&◌, [], false, true, if◌then◌else◌, IsTrue, IfErr, IfOk, IfSome, OnOk, OnSome, Some, length, nat_le, not, slice_get, take};
-ghost use Rattle.ld_words.specs.declared.word.TheConstants.{TEXT_LIMIT};
 
 use crate::scan::{
     blanks_in, first_blank, first_line_feed, first_quote, is_blank_byte, line_feeds_in,
@@ -30,7 +29,7 @@ pub struct Input<S> {
     pub line: u64,
     /// The number of bytes that are used.
     pub taken: u64,
-    ghost within: { taken + length window ≤ TEXT_LIMIT },
+    ghost within: { taken + length window ≤ 4294967295 },
     ghost lines: { line ≤ taken + 1 },
 }
 
@@ -55,7 +54,7 @@ impl<S: Source> Input<S> {
     /// Reads behind the bytes at hand.
     fn fill(&mut self) -> Result<Fill, WordFault>
         requires ready { IsTrue (S.ready self.old.source) }
-        requires room { length self.old.window ≤ WORD_LIMIT }
+        requires room { length self.old.window ≤ 65535 }
         ensures fills { IfOk result (Fills S.left self.old self.new) }
         ensures fault { IfErr result (λ f. f ≡ WordFault.ReadFault) }
         ensures stays { Stays self.old self.new }
@@ -77,7 +76,7 @@ impl<S: Source> Input<S> {
     /// Looks for one byte more than a text may have.
     fn look_past(&mut self) -> Result<Fill, WordFault>
         requires ready { IsTrue (S.ready self.old.source) }
-        requires full { self.old.taken + length self.old.window ≡ TEXT_LIMIT }
+        requires full { self.old.taken + length self.old.window ≡ 4294967295 }
         ensures fills { IfOk result (Fills S.left self.old self.new) }
         ensures fault { IfErr result (λ f. f ≡ WordFault.ReadFault) }
         ensures stays { Stays self.old self.new }
@@ -233,7 +232,7 @@ impl<S: Source> Input<S> {
 
     /// The length of a word, unless it is too long.
     fn fitting(&self, length: usize) -> Result<usize, WordFault>
-        ensures { result ≡ (if nat_le length WORD_LIMIT then Ok length
+        ensures { result ≡ (if nat_le length 65535 then Ok length
             else Err (WordFault.LongWord self.now.line)) }
     {
         if length <= WORD_LIMIT {
@@ -245,7 +244,7 @@ impl<S: Source> Input<S> {
 
     /// What is wrong where this byte, one too many for a text, comes after a plain word at hand.
     fn past_plain(&self, byte: u8) -> WordFault
-        ensures { result ≡ (if not (is_blank byte) && length self.now.window == WORD_LIMIT
+        ensures { result ≡ (if not (is_blank byte) && length self.now.window == 65535
             then WordFault.LongWord self.now.line else WordFault.TooLong self.now.line) }
     {
         if !is_blank_byte(byte) && self.window.bytes().len() == WORD_LIMIT {
@@ -288,7 +287,7 @@ impl<S: Source> Input<S> {
 
     /// What is wrong where one byte too many for a text comes after the quoted bytes at hand.
     fn past_quoted(&self) -> WordFault
-        ensures { result ≡ (if length self.now.window == WORD_LIMIT then WordFault.LongWord self.now.line
+        ensures { result ≡ (if length self.now.window == 65535 then WordFault.LongWord self.now.line
             else WordFault.TooLong (self.now.line + line_feeds self.now.window)) }
     {
         let bytes = self.window.bytes();

@@ -24,6 +24,3 @@ pub use decimal::{NumberFault, to_units};
 pub use laws::{lines_are_counted, rounding_is_nearest, spaced_words_are_read};
 pub use word::{Word, WordFault};
 pub use words::{Room, Words};
-
-#[cfg(test)]
-mod tests;

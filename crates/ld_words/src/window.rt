@@ -63,7 +63,7 @@ impl Window {
     /// Reads at most this many bytes behind those at hand, and answers how many; 0 is the end of the text.
     pub fn fill<S: Source>(&mut self, source: &mut S, most: usize) -> Result<usize, Failed>
         requires ready { IsTrue (S.ready source.old) }
-        requires room { length self.old ≤ WORD_LIMIT }
+        requires room { length self.old ≤ 65535 }
         requires some { 0 < most }
         ensures unread { OnErr result (self.new ≡ self.old) }
         ensures kept { OnOk result (take (length self.old) self.new ≡ self.old) }

@@ -8,11 +8,10 @@ use Rattle.std.proofs.lemmas.Bool.{cases_Bool, leb-true}
 use Rattle.std.proofs.lemmas.Int.{to_z-of_z}
 use Rattle.ld_words.specs.declared.decimal.NumberFault.{NumberFault}
 use Rattle.ld_words.specs.declared.decimal.NumberFault.TheVariants as fault
-use Rattle.odb_base.specs.declared.geometry.TheConstants.{COORDINATE_LIMIT}
 use Rattle.ld_words.specs.Decimal.{coordinate, is_decimal, is_negative, magnitude_of, signed, units_of, unsigned}
 
 -- a number with its sign
-signed_fits : (negative : Bool) (n : ℕ) → n ≤ COORDINATE_LIMIT → SFits w32 (signed negative n)
+signed_fits : (negative : Bool) (n : ℕ) → n ≤ 2000000000 → SFits w32 (signed negative n)
 signed_fits false n le = record { sfits = omega (arith, le) }
 signed_fits true zero le = record { sfits = omega arith }
 signed_fits true (suc n) le = record { sfits = omega (arith, le) }
@@ -23,7 +22,7 @@ if_ok false x z why h = cc
 
 coordinate_fits : (negative : Bool) (n : ℕ) (z : ℤ) → coordinate negative n ≡ Ok z → SFits w32 z
 coordinate_fits negative n z h =
-    let is = if_ok (nat_le n COORDINATE_LIMIT) (signed negative n) z fault.OutOfRange h in
+    let is = if_ok (nat_le n 2000000000) (signed negative n) z fault.OutOfRange h in
     subst (λ (y : ℤ). SFits w32 y) is.1 (signed_fits negative n (leb-true _ _ is.0))
 
 units_fit : (units : ℕ) (word : List ℕ) (z : ℤ) → units_of units word ≡ Ok z → SFits w32 z

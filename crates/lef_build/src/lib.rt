@@ -27,6 +27,3 @@ mod shapes;
 pub use fault::BuildFault;
 pub use laws::{what_is_left_out, what_parts_name};
 pub use parts::{Parts, parts_of};
-
-#[cfg(test)]
-mod tests;

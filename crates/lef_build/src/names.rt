@@ -17,13 +17,12 @@ pub struct Names<'a> {
 
 impl<'a> Model for Names<'a> {
     ghost use Rattle.std.specs.Prelude.{◌≤◌, List, ℕ, length, map};
-    ghost use Rattle.lef_build.specs.declared.names.TheConstants.{NAME_LIMIT};
 
     ghost Value = { List (List ℕ) };
 
     ghost view = { λ n. map (λ name. name.now) n.names.keys };
 
-    ghost invariant = { λ n. length n.names.keys ≤ NAME_LIMIT };
+    ghost invariant = { λ n. length n.names.keys ≤ 4000000000 };
 }
 
 impl<'a> Names<'a> {

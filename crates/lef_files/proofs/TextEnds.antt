@@ -2,7 +2,6 @@
 use Rattle.std.proofs.Common.{◌+◌, ◌==◌, true, false, List, [], ◌∷◌, ℕ, Result, Ok, Err, IsOk, if◌then◌else◌, refl}
 use Rattle.ld_words.specs.declared.word.Word.{Word}
 use Rattle.ld_words.specs.declared.word.WordFault.TheVariants as word
-use Rattle.ld_words.specs.declared.word.TheConstants.{TEXT_LIMIT}
 use Rattle.ld_words.specs.Reading.{Between, Comment, Done, Ending, Ends, Faulty, Goes, Long, Place, Plain, Quoted, Reading, Step, faulty, line_after, read, reading_of, step, with_word, words_of}
 use Rattle.lef_reader.specs.declared.fault.LefFault.TheVariants as fault
 use Rattle.lef_reader.specs.declared.fault.LefKind.{LefKind}
@@ -20,10 +19,10 @@ step-ends : (s : Step) (line taken : ℕ) (next : Place → Reading) → ((place
 step-ends (Long w) line taken next ends = refl
 step-ends (Goes place) line taken next ends =
     let late : Reading = faulty (word.TooLong line) in
-    elim (taken == TEXT_LIMIT) as (λ b. EndsText (if b then late else next place).ending) [ true ↦ refl | false ↦ ends place ]
+    elim (taken == 4294967295) as (λ b. EndsText (if b then late else next place).ending) [ true ↦ refl | false ↦ ends place ]
 step-ends (Ends w) line taken next ends =
     let late : Reading = faulty (word.TooLong line) in
-    elim (taken == TEXT_LIMIT) as (λ b. EndsText (if b then late else with_word w (next Between)).ending) [ true ↦ refl | false ↦ ends Between ]
+    elim (taken == 4294967295) as (λ b. EndsText (if b then late else with_word w (next Between)).ending) [ true ↦ refl | false ↦ ends Between ]
 
 text-ends : (place : Place) (line taken : ℕ) (bytes : List ℕ) → EndsText (read place line taken bytes).ending
 unfolding read

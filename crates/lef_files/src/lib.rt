@@ -15,6 +15,3 @@ mod outcome;
 pub use file::read_lef_file;
 pub use laws::texts_have_outcomes;
 pub use outcome::{LefFileFault, LefFileRead};
-
-#[cfg(test)]
-mod tests;

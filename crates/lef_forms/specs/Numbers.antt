@@ -3,7 +3,6 @@ use Rattle.std.specs.Prelude.{◌&&◌, Bool, List, ℕ, Option, Some, None, if�
 use Rattle.std.specs.List.{list_all}
 use Rattle.ld_words.specs.Decimal.{is_decimal, is_digit, unsigned, with_digit}
 use Rattle.odb_base.specs.Name.{name_fault}
-use Rattle.lef_forms.specs.declared.number.TheConstants.{UNITS_LIMIT}
 
 -- a decimal with or without a sign
 unfoldable pub is_number : List ℕ → Bool
@@ -15,7 +14,7 @@ is_name word = is_none (name_fault word)
 
 -- a lawful number of units per micron
 abbrev pub per_micron : ℕ → Option ℕ
-per_micron n = if nat_le 1 n && nat_le n UNITS_LIMIT then Some n else None
+per_micron n = if nat_le 1 n && nat_le n 100000 then Some n else None
 
 -- the lawful number that digits make, put behind those of another number
 abbrev pub per_micron_with : ℕ → List ℕ → Option ℕ

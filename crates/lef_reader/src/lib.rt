@@ -28,6 +28,3 @@ pub use lef::read_lef;
 pub use lef_tree::{
     LefItem, LefLayer, LefMacro, LefPin, LefPins, LefRect, LefShape, LefSite, LefTree, LefVia,
 };
-
-#[cfg(test)]
-mod tests;

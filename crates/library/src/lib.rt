@@ -23,6 +23,3 @@ pub use library::{Library, MASTER_LIMIT};
 pub use master::Master;
 pub use mterm::MTerm;
 pub use odb_base::Shape;
-
-#[cfg(test)]
-mod tests;

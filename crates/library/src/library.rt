@@ -20,14 +20,13 @@ pub struct Library {
 
 impl Model for Library {
     ghost use Rattle.std.specs.Prelude.{◌≤◌, List, length};
-    ghost use Rattle.library.specs.declared.library.TheConstants.{MASTER_LIMIT};
     ghost use Rattle.library.specs.declared.master.Master.{Master};
 
     ghost Value = { List Master };
 
     ghost view = { λ l. l.masters };
 
-    ghost invariant = { λ l. length l.masters ≤ MASTER_LIMIT };
+    ghost invariant = { λ l. length l.masters ≤ 1000000 };
 }
 
 impl Library {
@@ -43,7 +42,7 @@ impl Library {
     /// How many masters there are.
     pub fn count(&self) -> u32
         ensures count { result ≡ length self.now }
-        ensures limit { result ≤ MASTER_LIMIT }
+        ensures limit { result ≤ 1000000 }
         ensures distinct { HasDistinctNames self.now }
     {
         self.masters.count()
@@ -75,7 +74,7 @@ impl Library {
     /// [`MASTER_LIMIT`]. A refusal leaves the library as it was, and the master is dropped.
     pub fn add_master(&mut self, master: Master) -> Result<MasterId, AllocError>
         requires new { find_master self.old master.name ≡ None }
-        requires room { length self.old < MASTER_LIMIT }
+        requires room { length self.old < 1000000 }
         ensures ok { OnOk result (self.new ≡ self.old ++ master ∷ []) }
         ensures id { IfOk result (λ id. id.0 ≡ length self.old + 1) }
         ensures err { OnErr result (self.new ≡ self.old) }

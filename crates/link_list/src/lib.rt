@@ -23,6 +23,3 @@ pub use cells::LinkCells;
 pub use edits::{insert_before, push_front, unlink};
 pub use laws::{put_back, read_off};
 pub use link::{Head, Link};
-
-#[cfg(test)]
-mod tests;

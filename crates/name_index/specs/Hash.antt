@@ -1,15 +1,14 @@
 -- The hash of a name, and the bucket to which it belongs.
 use Rattle.std.specs.Prelude.{◌*◌, ◌/◌, ◌%◌, ◌^◌, List, ℕ, bit_xor, length, slice_index}
 use Rattle.std.specs.List.{fold}
-use Rattle.name_index.specs.declared.hash.TheConstants.{OFFSET_BASIS, PRIME}
 
 -- one more byte is hashed
 abbrev pub with_byte : ℕ → ℕ → ℕ
-with_byte hash byte = bit_xor hash byte * PRIME % 2 ^ 64
+with_byte hash byte = bit_xor hash byte * 1099511628211 % 2 ^ 64
 
 -- the 64-bit FNV-1a hash of the bytes
 unfoldable pub hash : List ℕ → ℕ
-hash name = fold with_byte OFFSET_BASIS name
+hash name = fold with_byte 14695981039346656037 name
 
 -- which of so many buckets a name belongs to: its hash with the upper half folded onto the lower, modulo the number
 unfoldable pub bucket_at : ℕ → List ℕ → ℕ

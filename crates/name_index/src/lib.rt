@@ -24,6 +24,3 @@ mod rehash;
 pub use cells::ChainCells;
 pub use index::NameIndex;
 pub use laws::read_off;
-
-#[cfg(test)]
-mod tests;

@@ -16,6 +16,3 @@ pub mod named_list;
 pub use laws::{ids_after_changes, ids_and_names};
 pub use named::Named;
 pub use named_list::NamedList;
-
-#[cfg(test)]
-mod tests;

@@ -3,7 +3,6 @@ use Rattle.std.specs.Prelude.{ℤ, pos, ◌≤ℤ◌, neg_ℤ}
 use Rattle.odb_base.specs.declared.codes.orient.Orient.{Orient}
 use Rattle.odb_base.specs.declared.codes.orient.Orient.TheVariants as orient
 use Rattle.odb_base.specs.declared.geometry.Rect.{Rect}
-use Rattle.odb_base.specs.declared.geometry.TheConstants.{COORDINATE_LIMIT}
 
 -- width and height of an object of these once it is turned
 abbrev pub oriented : Orient → ℤ → ℤ → ℤ × ℤ
@@ -18,7 +17,7 @@ oriented orient.FE w h = (h, w)
 
 -- the number is within the limit of coordinates
 abbrev pub IsCoordinate : ℤ → Type 0
-IsCoordinate n = (neg_ℤ (pos COORDINATE_LIMIT) ≤ℤ n) × (n ≤ℤ pos COORDINATE_LIMIT)
+IsCoordinate n = (neg_ℤ (pos 2000000000) ≤ℤ n) × (n ≤ℤ pos 2000000000)
 
 -- a rectangle has lawful coordinates, and goes from its lower left corner to its upper right one
 pub record IsRect (r : Rect) : Type 0 where

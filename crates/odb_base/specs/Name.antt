@@ -4,7 +4,6 @@ use Rattle.std.specs.List.{list_any}
 use Rattle.std.specs.Str.{bytes_eq}
 use Rattle.odb_base.specs.declared.name.NameFault.{NameFault}
 use Rattle.odb_base.specs.declared.name.NameFault.TheVariants as fault
-use Rattle.odb_base.specs.declared.name.TheConstants.{NAME_LIMIT}
 
 -- a byte that may stand in a name: from `!` to `~`, and no `*`
 abbrev pub is_name_byte : ℕ → Bool
@@ -42,7 +41,7 @@ byte_fault bytes None = reserved_fault bytes
 unfoldable pub name_fault : List ℕ → Option NameFault
 name_fault bytes =
     if length bytes == 0 then Some fault.Empty
-    else if nat_lt NAME_LIMIT (length bytes) then Some fault.TooLong
+    else if nat_lt 4095 (length bytes) then Some fault.TooLong
     else byte_fault bytes (bad_place bytes)
 
 -- the bytes are a name

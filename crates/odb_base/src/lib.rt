@@ -14,6 +14,7 @@ pub mod geometry;
 pub mod id;
 pub mod list;
 pub mod name;
+mod putting;
 pub mod steps;
 pub mod text;
 pub mod wire_code;
@@ -41,9 +42,7 @@ pub use id::{
 };
 pub use list::List;
 pub use name::{Name, NameFault, name_fault};
+pub use putting::put_in;
 pub use steps::Steps;
 pub use text::Text;
 pub use wire_code::WireCode;
-
-#[cfg(test)]
-mod tests;

@@ -148,7 +148,7 @@ impl Name {
     pub fn bytes(&self) -> &[u8]
         ensures value { result.now ≡ self.now }
         ensures lawful { IsName self.now }
-        ensures short { length result.now ≤ NAME_LIMIT }
+        ensures short { length result.now ≤ 4095 }
     {
         &self.bytes
     }

@@ -22,6 +22,3 @@ pub mod put;
 pub use get::{Cut, Get};
 pub use laws::{field_lengths, read_fields, written_fields};
 pub use put::Put;
-
-#[cfg(test)]
-mod tests;

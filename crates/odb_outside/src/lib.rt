@@ -27,6 +27,3 @@ pub use shelf_sink::ShelfSink;
 pub use shelf_source::ShelfSource;
 pub use sink::{Sink, write_all};
 pub use source::Source;
-
-#[cfg(test)]
-mod tests;

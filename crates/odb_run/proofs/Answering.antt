@@ -16,7 +16,6 @@ use Rattle.odb_save.specs.declared.load_fault.LoadFault.TheVariants as load
 use Rattle.shelf_files.specs.Whole.{IsFileRead, Reads, Writes}
 use Rattle.shelf_files.specs.declared.reading.FileRead.{FileRead}
 use Rattle.shelf_files.specs.declared.reading.FileRead.TheVariants as read
-use Rattle.shelf_files.specs.declared.reading.TheConstants.{FILE_LIMIT}
 use Rattle.odb_run.specs.Answering.{Answered, AreAnswers, IsLoadFrom, IsLoadOf, IsLoadReply, IsLoadUnless, Machine, has_refusal, in_state, lef_answer, lef_file_answer, machine, machine_after, read_lef_answer, replies_of, save_to_answer}
 use Rattle.odb_run.specs.Journal.{LeadsBack, eco_of}
 use Rattle.odb_run.specs.Loaded.{GivesInSession, IsReadReply}
@@ -26,11 +25,11 @@ use Rattle.odb_run.specs.Replies.{load_fault_text, number_text}
 use Rattle.odb_run.specs.Running.{Answers, Gives, GivesTold}
 use Rattle.odb_run.specs.Sessions.{Puts}
 
-not-long : (bytes : List ℕ) → length bytes ≤ FILE_LIMIT → nat_lt FILE_LIMIT (length bytes) ≡ false
-not-long bytes short = le-ltb FILE_LIMIT (length bytes) short
+not-long : (bytes : List ℕ) → length bytes ≤ 4294967295 → nat_lt 4294967295 (length bytes) ≡ false
+not-long bytes short = le-ltb 4294967295 (length bytes) short
 
-long : (bytes : List ℕ) → FILE_LIMIT < length bytes → nat_lt FILE_LIMIT (length bytes) ≡ true
-long bytes much = lt-ltb FILE_LIMIT (length bytes) much
+long : (bytes : List ℕ) → 4294967295 < length bytes → nat_lt 4294967295 (length bytes) ≡ true
+long bytes much = lt-ltb 4294967295 (length bytes) much
 
 module _ (s new : State) (before after : List ℕ) (any_refused : Bool) where
   -- an answer of the session is one of the machine that leaves the files

@@ -5,8 +5,6 @@ use Rattle.odb_save.proofs.Loads.{one_answer}
 use Rattle.script_words.specs.Commands.{Request, request_of}
 use Rattle.script_words.specs.declared.command_words.Command.{Command}
 use Rattle.script_words.specs.declared.command_words.Command.TheVariants as command
-use Rattle.shelf_files.specs.declared.reading.TheConstants.{FILE_LIMIT}
-use Rattle.odb_run.specs.declared.run.TheConstants.{LINE_LIMIT}
 use Rattle.odb_run.specs.Answering.{Answered, AreAnswers, IsAnswer, IsAnswerUnless, IsCommandAnswer, IsLoadFrom, IsLoadOf, IsLoadReply, IsLoadUnless, IsRequestAnswer, Machine, load_answer}
 use Rattle.odb_run.specs.Laws.{IsDetermined}
 use Rattle.odb_run.specs.Machine.{Kept}
@@ -21,7 +19,7 @@ same-unless false m bytes a b one other = same-load m bytes a b one other
 
 same-from : (m : Machine) (found : Option (List ℕ)) (a b : Answered) → IsLoadFrom m found a → IsLoadFrom m found b → a ≡ b
 same-from m None a b one other = one ∙ sym other
-same-from m (Some bytes) a b one other = same-unless (nat_lt FILE_LIMIT (length bytes)) m bytes a b one other
+same-from m (Some bytes) a b one other = same-unless (nat_lt 4294967295 (length bytes)) m bytes a b one other
 
 same-reply : (m : Machine) (file : List ℕ) (eco : Option Kept) (a b : Answered) → IsLoadReply m file eco a → IsLoadReply m file eco b → a ≡ b
 same-reply m file None a b one other = same-from m (file_of file m.files) a b one other
@@ -57,7 +55,7 @@ same-line false m line a b one other = same-request m (request_of line) a b one 
 -- to a line there is one answer
 pub one-reply : (m : Machine) (line : List ℕ) (a b : Answered) → IsAnswer m line a → IsAnswer m line b → a ≡ b
 unfolding IsAnswer
-one-reply m line a b one other = same-line (nat_lt LINE_LIMIT (length line)) m line a b one other
+one-reply m line a b one other = same-line (nat_lt 65535 (length line)) m line a b one other
 
 -- and to lines there is one list of answers
 pub determined : (m : Machine) (lines : List (List ℕ)) → IsDetermined m lines

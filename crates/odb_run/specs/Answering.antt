@@ -18,9 +18,7 @@ use Rattle.reports.specs.declared.query.Query.TheVariants as query
 use Rattle.script_words.specs.Commands.{Request, request_of}
 use Rattle.script_words.specs.declared.command_words.Command.{Command}
 use Rattle.script_words.specs.declared.command_words.Command.TheVariants as command
-use Rattle.shelf_files.specs.declared.reading.TheConstants.{FILE_LIMIT}
 use Rattle.tech_parts.specs.Adding.{added_by, with_parts}
-use Rattle.odb_run.specs.declared.run.TheConstants.{LINE_LIMIT}
 use Rattle.odb_run.specs.Machine.{Answer, Kept, State, accepted, begin_answer, edit_answer, part_answer, parts_answer, refused, report_answer, save_answer, unanswered, undo_answer}
 use Rattle.odb_run.specs.Replies.{added_text, build_text, fault_text, lef_text, load_fault_text, long_file_text, long_line_text, no_file_text, number_text, wrong_state_text}
 
@@ -73,7 +71,7 @@ IsLoadUnless false m bytes a = IsLoadOf m bytes a
 -- and of a file that may not be there
 abbrev pub IsLoadFrom : Machine → Option (List ℕ) → Answered → Type 0
 IsLoadFrom m None a = a ≡ denied m no_file_text
-IsLoadFrom m (Some bytes) a = IsLoadUnless (nat_lt FILE_LIMIT (length bytes)) m bytes a
+IsLoadFrom m (Some bytes) a = IsLoadUnless (nat_lt 4294967295 (length bytes)) m bytes a
 
 -- `load FILE` puts the database whose saved bytes the file holds, where no ECO stands
 abbrev pub IsLoadReply : Machine → List ℕ → Option Kept → Answered → Type 0
@@ -131,7 +129,7 @@ IsAnswerUnless false m line a = IsRequestAnswer m (request_of line) a
 
 -- the machine answers a line so
 unfoldable pub IsAnswer : Machine → List ℕ → Answered → Type 0
-IsAnswer m line a = IsAnswerUnless (nat_lt LINE_LIMIT (length line)) m line a
+IsAnswer m line a = IsAnswerUnless (nat_lt 65535 (length line)) m line a
 
 -- The machine answers lines so: each from where the answer to the one before it left it.
 abbrev pub AreAnswers : Machine → List (List ℕ) → List Answered → Type 0

@@ -30,6 +30,3 @@ mod top;
 pub use laws::answers_are_determined;
 pub use status::Status;
 pub use top::odb_main;
-
-#[cfg(test)]
-mod tests;

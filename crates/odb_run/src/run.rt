@@ -1,7 +1,6 @@
 ghost use Rattle.std.specs.Prelude.{◌≡◌, ◌<◌, ◌≤◌, ◌++◌, [], IfOk, IfSome, IsTrue, OnErr, OnOk, false, length};
 ghost use Rattle.odb_outside.specs.Outside.{HasWriteCause};
 ghost use Rattle.odb_outside.specs.Writing.{Grows, GrowsByPrefix, UnlessFailed};
-ghost use Rattle.block_store.specs.declared.block.TheConstants.{SLOT_LIMIT};
 ghost use Rattle.odb_outside.specs.Shelves.{files_told};
 ghost use Rattle.odb_outside.specs.declared.shelf.Hand.{Hand as AnyHand};
 ghost use Rattle.shelf_files.specs.Causes.{HasCause as HasFileCause};
@@ -55,7 +54,7 @@ impl Run {
     /// A run that has taken nothing of its script, over the empty database, whose tables have at most `cap`
     /// slots each.
     pub fn new(alloc: Global, cap: u32) -> Result<Run, AllocError>
-        requires { cap ≤ SLOT_LIMIT }
+        requires { cap ≤ 16777215 }
         ensures { IfOk result (λ run. run ≡ first_run (start cap)) }
     {
         Ok(Run {

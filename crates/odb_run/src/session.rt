@@ -2,7 +2,6 @@ ghost use Rattle.std.specs.Prelude.{◌≡◌, ◌↔◌, ◌≤◌, ◌∷◌, 
 ghost use Rattle.edits.specs.Plan.{CanAll, made as made_by};
 ghost use Rattle.steps_net.specs.Can.{Can};
 ghost use Rattle.steps_net.specs.Room.{lacks};
-ghost use Rattle.block_store.specs.declared.block.TheConstants.{SLOT_LIMIT};
 
 use crate::journal::Journal;
 use crate::outcome::Outcome;
@@ -68,7 +67,7 @@ impl Session {
     /// A session over the empty database, whose tables have at most `cap` slots each.
     #[tactic(auto, unfolding(crate::specs::Machine::start))]
     pub fn new(alloc: Global, cap: u32) -> Result<Session, AllocError>
-        requires { cap ≤ SLOT_LIMIT }
+        requires { cap ≤ 16777215 }
         ensures { IfOk result (λ session. session ≡ start cap) }
     {
         Ok(Session {

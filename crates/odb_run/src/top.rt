@@ -6,7 +6,6 @@ ghost use Rattle.odb_run.specs.Headline.{IsAnswered, RunsToldAs};
 ghost use Rattle.odb_run.specs.Machine.{start};
 ghost use Rattle.odb_run.specs.Running.{HasFaultCause, ended, first_run};
 ghost use Rattle.odb_run.specs.Options.{slots_of};
-ghost use Rattle.block_store.specs.declared.block.TheConstants.{SLOT_LIMIT};
 
 use crate::options::slots;
 use crate::run::{PIECE, Run};
@@ -71,7 +70,7 @@ fn run_counted<S: Source, K: Sink, F: Shelf, L: Ledger>(
     shelf: &mut F,
     blank: Blank,
 ) -> Status
-    requires cap { cap ≤ SLOT_LIMIT }
+    requires cap { cap ≤ 16777215 }
     requires script_ready { IsTrue (S.ready script.old) }
     requires out_ready { IsTrue (K.ready out.old) }
     requires hand { F.hand shelf.old ≡ Hand.Nothing }
@@ -102,7 +101,7 @@ fn run_script<S: Source, K: Sink, F: Shelf, L: Ledger>(
     shelf: &mut F,
     moves: &mut Steps<L>,
 ) -> Result<bool, Stop>
-    requires cap { cap ≤ SLOT_LIMIT }
+    requires cap { cap ≤ 16777215 }
     requires script_ready { IsTrue (S.ready script.old) }
     requires out_ready { IsTrue (K.ready out.old) }
     requires hand { F.hand shelf.old ≡ Hand.Nothing }
@@ -158,7 +157,7 @@ fn take_pieces<S: Source, K: Sink, F: Shelf, L: Ledger>(
 fn room_for(taken: usize) -> usize
     ensures some { 0 < result }
     ensures piece { result ≤ PIECE }
-    ensures limit { taken < SCRIPT_LIMIT → result ≤ SCRIPT_LIMIT - taken }
+    ensures limit { taken < 1073741824 → result ≤ 1073741824 - taken }
 {
     if taken < SCRIPT_LIMIT {
         PIECE.min(SCRIPT_LIMIT - taken)

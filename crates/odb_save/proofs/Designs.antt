@@ -10,9 +10,7 @@ use Rattle.named_list.proofs.Places.{slice_get-append}
 use Rattle.tech.specs.Technology.{Technology}
 use Rattle.tech.specs.declared.layer.Layer.{Layer}
 use Rattle.tech.specs.declared.site.Site.{Site}
-use Rattle.tech.specs.declared.tech.TheConstants.{LIST_LIMIT}
 use Rattle.tech.specs.declared.via.TechVia.{TechVia}
-use Rattle.library.specs.declared.library.TheConstants.{MASTER_LIMIT}
 use Rattle.library.specs.declared.master.Master.{Master}
 use Rattle.lawful_parts.specs.Lawful.{AreAll}
 use Rattle.lawful_parts.proofs.Growing.{via_along}
@@ -127,27 +125,27 @@ module _ (t : Technology) (masters : List Master) (b : Database) where
   layers_may : IsDesign t masters → (before : List Layer) (x : Layer) (more : List Layer) → before ++ x ∷ more ≡ t.layers → cause_of (layered before) (part.Layer x) ≡ None
   unfolding cause_of
   layers_may is before x more whole =
-      let f = fits (λ (l : Layer). l.name) _ LIST_LIMIT t.layers before x more is.tech.layers is.tech.distinct.layers is.tech.few.layers whole in
-      none_of _ _ LIST_LIMIT (length before) f.new ((layer_is_tested x).1 f.lawful) f.room
+      let f = fits (λ (l : Layer). l.name) _ 1000000 t.layers before x more is.tech.layers is.tech.distinct.layers is.tech.few.layers whole in
+      none_of _ _ 1000000 (length before) f.new ((layer_is_tested x).1 f.lawful) f.room
 
   vias_may : IsDesign t masters → (before : List TechVia) (x : TechVia) (more : List TechVia) → before ++ x ∷ more ≡ t.vias → cause_of (viaed before) (part.Via x) ≡ None
   unfolding cause_of
   vias_may is before x more whole =
-      let f = fits (λ (v : TechVia). v.name) _ LIST_LIMIT t.vias before x more is.tech.vias is.tech.distinct.vias is.tech.few.vias whole in
+      let f = fits (λ (v : TechVia). v.name) _ 1000000 t.vias before x more is.tech.vias is.tech.distinct.vias is.tech.few.vias whole in
       let lawful = via_along t (viaed before).tech (omega arith) x f.lawful in
-      none_of _ _ LIST_LIMIT (length before) f.new ((via_is_tested (viaed before).tech x).1 lawful) f.room
+      none_of _ _ 1000000 (length before) f.new ((via_is_tested (viaed before).tech x).1 lawful) f.room
 
   sites_may : IsDesign t masters → (before : List Site) (x : Site) (more : List Site) → before ++ x ∷ more ≡ t.sites → cause_of (sited before) (part.Site x) ≡ None
   unfolding cause_of
   sites_may is before x more whole =
-      let f = fits (λ (s : Site). s.name) _ LIST_LIMIT t.sites before x more is.tech.sites is.tech.distinct.sites is.tech.few.sites whole in
-      none_of _ _ LIST_LIMIT (length before) f.new ((site_is_tested x).1 f.lawful) f.room
+      let f = fits (λ (s : Site). s.name) _ 1000000 t.sites before x more is.tech.sites is.tech.distinct.sites is.tech.few.sites whole in
+      none_of _ _ 1000000 (length before) f.new ((site_is_tested x).1 f.lawful) f.room
 
   masters_may : IsDesign t masters → (before : List Master) (x : Master) (more : List Master) → before ++ x ∷ more ≡ masters → cause_of (stocked before) (part.Master x) ≡ None
   unfolding cause_of
   masters_may is before x more whole =
-      let f = fits (λ (m : Master). m.name) _ MASTER_LIMIT masters before x more is.library.masters is.library.distinct is.library.few whole in
-      none_of _ _ MASTER_LIMIT (length before) f.new ((master_is_tested t x).1 f.lawful) f.room
+      let f = fits (λ (m : Master). m.name) _ 1000000 masters before x more is.library.masters is.library.distinct is.library.few whole in
+      none_of _ _ 1000000 (length before) f.new ((master_is_tested t x).1 f.lawful) f.room
 
   abbrev layer_parts : List TechPart
   layer_parts = map part.Layer t.layers

@@ -16,7 +16,6 @@ use Rattle.block_store.specs.declared.entry.BTermEntry.{BTermEntry}
 use Rattle.block_store.specs.declared.entry.InstEntry.{InstEntry}
 use Rattle.block_store.specs.declared.entry.NetEntry.{NetEntry}
 use Rattle.lawful_parts.specs.Tests.{is_coordinate}
-use Rattle.library.specs.declared.library.TheConstants.{MASTER_LIMIT}
 use Rattle.library.specs.declared.master.Master.{Master}
 use Rattle.library.specs.declared.mterm.MTerm.{MTerm}
 use Rattle.saved_reader.specs.Fields.{any_text_at, coded_at, id_at, no_text_at}
@@ -105,9 +104,9 @@ master_codec =
     (λ m. (((((((m.name, m.class), (((m.origin_x, m.origin_y), m.width), m.height)), m.symmetry), m.site), m.foreign), m.terminals), m.obstructions))
     _ _ _ (λ m. refl) (λ t. refl) all
 
-pub library_codec : IsCodec library_at library_bytes (IsList MASTER_LIMIT IsMasterFields)
+pub library_codec : IsCodec library_at library_bytes (IsList 1000000 IsMasterFields)
 unfolding library_at list_bytes
-library_codec = list_codec master_at master_bytes IsMasterFields master_codec MASTER_LIMIT
+library_codec = list_codec master_at master_bytes IsMasterFields master_codec 1000000
 
 -- ---- objects
 

@@ -27,7 +27,6 @@ use Rattle.block_records.specs.Header.{new_header}
 use Rattle.block_records.specs.declared.header.Header.{Header}
 use Rattle.block_records.specs.declared.iterm.ITermRec.{ITermRec}
 use Rattle.block_store.specs.Block.{empty_table}
-use Rattle.block_store.specs.declared.block.TheConstants.{SLOT_LIMIT}
 use Rattle.block_store.specs.declared.entry.BTermEntry.{BTermEntry}
 use Rattle.block_store.specs.declared.entry.InstEntry.{InstEntry}
 use Rattle.block_store.specs.declared.entry.NetEntry.{NetEntry}
@@ -38,7 +37,6 @@ use Rattle.lawful_parts.proofs.TestLemmas.{int_le_test}
 use Rattle.tech.specs.Technology.{Technology}
 use Rattle.tech.specs.declared.layer.Layer.{Layer}
 use Rattle.tech.specs.declared.site.Site.{Site}
-use Rattle.tech.specs.declared.tech.TheConstants.{LIST_LIMIT}
 use Rattle.tech.specs.declared.via.TechVia.{TechVia}
 use Rattle.block_store.specs.Lists.{bterm_number, iterm_number, list_in}
 use Rattle.block_store.specs.Sound.{AreEach, IsBTermDirection, IsPlacement, IsTable, inst_terms, iterm_place, net_terms, term_count, unplaced}
@@ -47,7 +45,6 @@ use Rattle.block_store.proofs.Joined.{bterm_inside, from_one, iterm_inside, net_
 use Rattle.block_store.proofs.Shown.{live_by}
 use Rattle.block_store.proofs.Slots.{record_at_place}
 use Rattle.library.specs.Masters.{master_at}
-use Rattle.library.specs.declared.library.TheConstants.{MASTER_LIMIT}
 use Rattle.library.specs.declared.master.Master.{Master}
 use Rattle.library.specs.declared.mterm.MTerm.{MTerm}
 use Rattle.slot_pool.specs.Table.{Table, is_vacant, record_at}
@@ -179,11 +176,11 @@ module _ (t : Technology) (lawful : IsTechnology t) where
     (
       (
         number 0 100000 t.units (omega arith) lawful.units (omega arith),
-        (number 0 LIST_LIMIT (length t.layers) (omega arith) lawful.few.layers (omega arith), each_by IsLayerFields t.layers (λ i l at. layer_fields l (lawful.layers i l at))),
+        (number 0 1000000 (length t.layers) (omega arith) lawful.few.layers (omega arith), each_by IsLayerFields t.layers (λ i l at. layer_fields l (lawful.layers i l at))),
       ),
-      (number 0 LIST_LIMIT (length t.vias) (omega arith) lawful.few.vias (omega arith), each_by IsViaFields t.vias (λ i v at. via_fields v (lawful.vias i v at))),
+      (number 0 1000000 (length t.vias) (omega arith) lawful.few.vias (omega arith), each_by IsViaFields t.vias (λ i v at. via_fields v (lawful.vias i v at))),
     ),
-    (number 0 LIST_LIMIT (length t.sites) (omega arith) lawful.few.sites (omega arith), each_by IsSiteFields t.sites (λ i s at. site_fields s (lawful.sites i s at))),
+    (number 0 1000000 (length t.sites) (omega arith) lawful.few.sites (omega arith), each_by IsSiteFields t.sites (λ i s at. site_fields s (lawful.sites i s at))),
   )
 
   -- ---- masters
@@ -200,9 +197,9 @@ module _ (t : Technology) (lawful : IsTechnology t) where
         shapes_fields m.obstructions is.obstructions,
       )
 
-  library_fields : (library : List Master) → IsLibrary t library → IsList MASTER_LIMIT IsMasterFields library
+  library_fields : (library : List Master) → IsLibrary t library → IsList 1000000 IsMasterFields library
   library_fields library is =
-      (number 0 MASTER_LIMIT (length library) (omega arith) is.few (omega arith), each_by IsMasterFields library (λ i m at. master_fields m (is.masters i m at)))
+      (number 0 1000000 (length library) (omega arith) is.few (omega arith), each_by IsMasterFields library (λ i m at. master_fields m (is.masters i m at)))
 
 -- ---- tables
 
@@ -214,7 +211,7 @@ module _ {A : Type 0} (Fits : A → Type 0) (t : Table A) (each : AreEach Fits t
   slots_fields : AllByRecursion (λ o. Unit {0} × IsOption Fits o) t.slots
   slots_fields = each_by (λ o. Unit {0} × IsOption Fits o) t.slots (λ i o at. (tt, option_fields (i + 1) o (record_at_place t i ∙ get_or_from_slice_get t.slots i o None at)))
 
-free_fields : {A : Type 0} (t : Table A) (cap : ℕ) → IsTable cap t → cap ≤ SLOT_LIMIT → AllByRecursion IsId t.free
+free_fields : {A : Type 0} (t : Table A) (cap : ℕ) → IsTable cap t → cap ≤ 16777215 → AllByRecursion IsId t.free
 free_fields t cap is small = each_held IsId t.free (λ id inside.
     let held = times_held t.free id inside in
     let vacant = once_true (is_vacant t.slots id) (omega (arith, is.good id, held)) in
@@ -224,7 +221,7 @@ free_fields t cap is small = each_held IsId t.free (λ id inside.
 may : (k : Kind) (n : ℕ) → is_built k ≡ true → may_have k n ≡ true
 may k n built = rw built refl
 
-table_fields : {A : Type 0} (k : Kind) (cap : ℕ) (Fits : A → Type 0) (t : Table A) → is_built k ≡ true → cap ≤ SLOT_LIMIT → IsTable cap t → AreEach Fits t → IsTableOf k cap Fits t
+table_fields : {A : Type 0} (k : Kind) (cap : ℕ) (Fits : A → Type 0) (t : Table A) → is_built k ≡ true → cap ≤ 16777215 → IsTable cap t → AreEach Fits t → IsTableOf k cap Fits t
 table_fields k cap Fits t built small is each =
     let few = good_few t is.good in (
       ((may k (length t.slots) built, (is.within, omega (arith, is.within, small))), slots_fields Fits t each),
@@ -245,7 +242,7 @@ empty_fields {A} k cap Fits t is =
 -- ---- records
 
 -- an object that is there has an identifier within the cap
-live_id : {A : Type 0} (cap : ℕ) (t : Table A) (id : ℕ) → cap ≤ SLOT_LIMIT → IsTable cap t → is_some (record_at t id) ≡ true → IsId id
+live_id : {A : Type 0} (cap : ℕ) (t : Table A) (id : ℕ) → cap ≤ 16777215 → IsTable cap t → is_some (record_at t id) ≡ true → IsId id
 live_id cap t id small is live = let within = live_within t.slots id live in omega (arith, within.1, is.within, small)
 
 found_live : {A : Type 0} (t : Table A) (id : ℕ) (x : A) → record_at t id ≡ Some x → is_some (record_at t id) ≡ true
@@ -257,7 +254,7 @@ master_within library id m found = elim (cases_Bool (eqb id 0)) [
   | inr some ↦ (let within = slice_get_within library (id - 1) m (rw some at found) in omega (arith, within))
 ]
 
-master_id : (library : List Master) (id n : ℕ) → length library ≤ MASTER_LIMIT → term_count library id ≡ Some n → IsId id
+master_id : (library : List Master) (id n : ℕ) → length library ≤ 1000000 → term_count library id ≡ Some n → IsId id
 master_id library id n few counted =
     let shown = shown_by (λ m. length m.terminals) (master_at library id) n counted in
     omega (arith, master_within library id shown.value shown.is, few)

@@ -10,7 +10,6 @@ use Rattle.odb_fields.specs.Fields.{text_bytes}
 use Rattle.tech.specs.Technology.{Technology}
 use Rattle.tech.specs.declared.layer.Layer.{Layer}
 use Rattle.tech.specs.declared.site.Site.{Site}
-use Rattle.tech.specs.declared.tech.TheConstants.{LIST_LIMIT}
 use Rattle.tech.specs.declared.via.TechVia.{TechVia}
 use Rattle.lawful_parts.specs.Tests.{is_coordinate}
 use Rattle.saved_reader.specs.Fields.{name_at}
@@ -90,12 +89,12 @@ site_codec =
 
 abbrev pub IsTechFields : Technology → Type 0
 IsTechFields t =
-    ((IsNumber 0 100000 t.units × IsList LIST_LIMIT IsLayerFields t.layers) × IsList LIST_LIMIT IsViaFields t.vias) × IsList LIST_LIMIT IsSiteFields t.sites
+    ((IsNumber 0 100000 t.units × IsList 1000000 IsLayerFields t.layers) × IsList 1000000 IsViaFields t.vias) × IsList 1000000 IsSiteFields t.sites
 
 pub tech_codec : IsCodec tech_at tech_bytes IsTechFields
 unfolding tech_at tech_bytes list_bytes
 tech_codec =
-    let layered = and_codec _ _ _ _ _ _ (number_codec 0 100000) (list_codec layer_at layer_bytes IsLayerFields layer_codec LIST_LIMIT) in
-    let viaed = and_codec _ _ _ _ _ _ layered (list_codec via_at tech_via_bytes IsViaFields via_codec LIST_LIMIT) in
-    let all = and_codec _ _ _ _ _ _ viaed (list_codec site_at site_bytes IsSiteFields site_codec LIST_LIMIT) in
+    let layered = and_codec _ _ _ _ _ _ (number_codec 0 100000) (list_codec layer_at layer_bytes IsLayerFields layer_codec 1000000) in
+    let viaed = and_codec _ _ _ _ _ _ layered (list_codec via_at tech_via_bytes IsViaFields via_codec 1000000) in
+    let all = and_codec _ _ _ _ _ _ viaed (list_codec site_at site_bytes IsSiteFields site_codec 1000000) in
     record_codec technology_of (λ t. (((t.units, t.layers), t.vias), t.sites)) _ _ _ (λ t. refl) (λ t. refl) all

@@ -14,7 +14,6 @@ use Rattle.odb_fields.specs.Reading.{Cursor, bytes_at, u32_at, u8_at, unread, �
 use Rattle.odb_fields.proofs.Inputs.{bind_ok, bytes_back, bytes_only, ok_is}
 use Rattle.block_records.specs.declared.header.Header.{Header}
 use Rattle.block_store.specs.Block.{Block}
-use Rattle.library.specs.declared.library.TheConstants.{MASTER_LIMIT}
 use Rattle.slot_pool.specs.Table.{Table}
 use Rattle.saved_reader.specs.declared.fault.ReadFault.{ReadFault}
 use Rattle.saved_reader.specs.declared.saved.Saved.{Saved}
@@ -172,7 +171,7 @@ version_codec = record {
 -- ---- all of it
 
 abbrev pub IsSavedFields : ℕ → Saved → Type 0
-IsSavedFields cap s = (((Unit {0} × Unit {0}) × IsTechFields s.tech) × IsList MASTER_LIMIT IsMasterFields s.library) × IsBlockFields cap s.tables
+IsSavedFields cap s = (((Unit {0} × Unit {0}) × IsTechFields s.tech) × IsList 1000000 IsMasterFields s.library) × IsBlockFields cap s.tables
 
 abbrev saved_bytes : Saved → List ℕ
 saved_bytes s = codes "ODBS" ++ (((u32_bytes 1 ++ tech_bytes s.tech) ++ library_bytes s.library) ++ block_bytes s.tables)

@@ -1,8 +1,6 @@
 ghost use Rattle.std.specs.Prelude.{◌≡◌, ◌≤◌, ◌++◌, IfErr, IfOk, OnOk, map};
 ghost use Rattle.edit_words.specs.declared.part.TechPart.{TechPart as AnyPart};
 ghost use Rattle.edit_words.specs.declared.part.TechPart.TheVariants as part;
-ghost use Rattle.lawful_parts.specs.declared.shapes.TheConstants.{UNIT_LIMIT};
-ghost use Rattle.block_store.specs.declared.block.TheConstants.{SLOT_LIMIT};
 ghost use Rattle.odb_save.specs.Design.{parts_of as all_parts};
 ghost use Rattle.odb_save.specs.Loading.{IsDesignFault};
 
@@ -24,8 +22,8 @@ pub fn make_design(
     library: List<Master>,
     cap: u32,
 ) -> Result<Database, LoadFault>
-    requires limit { cap ≤ SLOT_LIMIT }
-    requires units { tech.units ≤ UNIT_LIMIT }
+    requires limit { cap ≤ 16777215 }
+    requires units { tech.units ≤ 100000 }
     ensures tech { IfOk result (λ db. db.tech ≡ tech) }
     ensures library { IfOk result (λ db. db.library ≡ library) }
     ensures err { IfErr result (IsDesignFault tech library) }

@@ -39,6 +39,3 @@ pub use laws::{
 };
 pub use load_fault::LoadFault;
 pub use loading::load;
-
-#[cfg(test)]
-mod tests;

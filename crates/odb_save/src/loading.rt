@@ -1,6 +1,5 @@
 ghost use Rattle.std.specs.Prelude.{◌≡◌, ◌≤◌, IfErr, IfOk, OnOk};
 ghost use Rattle.odb_base.specs.declared.codes.kind.Kind.{Kind as AnyKind};
-ghost use Rattle.block_store.specs.declared.block.TheConstants.{SLOT_LIMIT};
 ghost use Rattle.block_store.specs.Block.{slots_in};
 ghost use Rattle.block_store.specs.Database.{Database as AnyDatabase, IsSoundDatabase};
 ghost use Rattle.odb_save.specs.Loading.{HasLoadCause, IsLoadAnswer, IsLoadedAs, IsPartFault};
@@ -18,7 +17,7 @@ use std::alloc::Global;
 /// the first fault of reading them, and where there is none by the least place that isn't sound. For saved bytes of a
 /// database with this cap the only other answer is want of memory.
 pub fn load(alloc: Global, bytes: &[u8], cap: u32) -> Result<Database, LoadFault>
-    requires { cap ≤ SLOT_LIMIT }
+    requires { cap ≤ 16777215 }
     ensures saved { IfOk result (λ d. bytes.now ≡ save_bytes d) }
     ensures cap { IfOk result (λ d. d.cap ≡ cap) }
     ensures cause { IfErr result (λ fault. HasLoadCause cap bytes.now fault) }
@@ -30,7 +29,7 @@ pub fn load(alloc: Global, bytes: &[u8], cap: u32) -> Result<Database, LoadFault
 
 // The clauses of `load` follow from this one.
 fn load_saved(alloc: Global, bytes: &[u8], cap: u32) -> Result<Database, LoadFault>
-    requires { cap ≤ SLOT_LIMIT }
+    requires { cap ≤ 16777215 }
     ensures { IsLoadAnswer cap bytes.now result }
 {
     let saved = read_saved(alloc, bytes, cap)?;
@@ -39,7 +38,7 @@ fn load_saved(alloc: Global, bytes: &[u8], cap: u32) -> Result<Database, LoadFau
 
 // The database of what was read, where that is sound.
 fn make_database(alloc: Global, saved: Saved, cap: u32) -> Result<Database, LoadFault>
-    requires limit { cap ≤ SLOT_LIMIT }
+    requires limit { cap ≤ 16777215 }
     requires within { (k : AnyKind) → slots_in k saved.tables ≤ cap }
     requires units { saved.tech.units ≤ 100000 }
     ensures sound { OnOk result (IsSoundDatabase (database_of cap saved)) }
@@ -68,7 +67,7 @@ fn with_tables(
     tables: Tables,
     cap: u32,
 ) -> Result<Database, LoadFault>
-    requires limit { cap ≤ SLOT_LIMIT }
+    requires limit { cap ≤ 16777215 }
     requires within { (k : AnyKind) → slots_in k tables ≤ cap }
     ensures sound { OnOk result (IsSoundDatabase (database_of cap (spelled_with design tables))) }
     ensures ok { IfOk result (λ d. d ≡ database_of cap (spelled_with design tables)) }

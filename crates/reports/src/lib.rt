@@ -12,6 +12,3 @@ pub mod text;
 
 pub use query::{Query, ReportFault};
 pub use replies::report;
-
-#[cfg(test)]
-mod tests;

@@ -5,7 +5,6 @@ use Rattle.std.specs.Int.{w32}
 use Rattle.std.specs.List.{find}
 use Rattle.std.specs.Str.{bytes_eq}
 use Rattle.std.proofs.lemmas.Bool.{cases_Bool, eqb-true}
-use Rattle.odb_base.specs.declared.name.TheConstants.{NAME_LIMIT}
 use Rattle.odb_fields.specs.Fields.{i32_bytes, text_bytes, u32_bytes, u8_bytes}
 use Rattle.odb_fields.specs.Reading.{Cursor, bytes_at, i32_at, u32_at, u8_at}
 use Rattle.odb_fields.proofs.Inputs.{bind_ok, bytes_back, bytes_only, with_fault_back, with_fault_ok}
@@ -149,11 +148,11 @@ text_codec least most =
 
 -- a name, as a text
 abbrev pub IsNameText : List ℕ → Type 0
-IsNameText bytes = (is_name bytes ≡ true) × IsText 1 NAME_LIMIT bytes
+IsNameText bytes = (is_name bytes ≡ true) × IsText 1 4095 bytes
 
 pub name_codec : IsCodec name_at text_bytes IsNameText
 unfolding name_at
-name_codec = such_codec is_name (text_at 1 NAME_LIMIT) text_bytes (IsText 1 NAME_LIMIT) (text_codec 1 NAME_LIMIT)
+name_codec = such_codec is_name (text_at 1 4095) text_bytes (IsText 1 4095) (text_codec 1 4095)
 
 -- just this text
 abbrev pub IsWord : List ℕ → List ℕ → Type 0

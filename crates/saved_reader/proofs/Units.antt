@@ -5,7 +5,6 @@ use Rattle.std.proofs.lemmas.Bool.{and_parts, leb-true}
 use Rattle.odb_fields.specs.Reading.{Cursor, u32_at}
 use Rattle.odb_fields.proofs.Inputs.{bind_ok}
 use Rattle.tech.specs.Technology.{Technology}
-use Rattle.tech.specs.declared.tech.TheConstants.{LIST_LIMIT}
 use Rattle.saved_reader.specs.Parts.{list_at}
 use Rattle.saved_reader.specs.declared.fault.ReadFault.{ReadFault}
 use Rattle.saved_reader.specs.declared.saved.Saved.{Saved}
@@ -26,10 +25,10 @@ number_within least most old new n e =
 units_within : (old new : Cursor) (t : Technology) → tech_at old ≡ Ok (t, new) → t.units ≤ 100000
 unfolding tech_at
 units_within old new t e =
-    let m = made_ok technology_of (number_at 0 100000 & list_at LIST_LIMIT layer_at & list_at LIST_LIMIT via_at & list_at LIST_LIMIT site_at) old new t e in
-    let sites = and_ok (number_at 0 100000 & list_at LIST_LIMIT layer_at & list_at LIST_LIMIT via_at) (list_at LIST_LIMIT site_at) old new m.0 m.1 in
-    let vias = and_ok (number_at 0 100000 & list_at LIST_LIMIT layer_at) (list_at LIST_LIMIT via_at) old sites.0 m.0.0 sites.1 in
-    let layers = and_ok (number_at 0 100000) (list_at LIST_LIMIT layer_at) old vias.0 m.0.0.0 vias.1 in
+    let m = made_ok technology_of (number_at 0 100000 & list_at 1000000 layer_at & list_at 1000000 via_at & list_at 1000000 site_at) old new t e in
+    let sites = and_ok (number_at 0 100000 & list_at 1000000 layer_at & list_at 1000000 via_at) (list_at 1000000 site_at) old new m.0 m.1 in
+    let vias = and_ok (number_at 0 100000 & list_at 1000000 layer_at) (list_at 1000000 via_at) old sites.0 m.0.0 sites.1 in
+    let layers = and_ok (number_at 0 100000) (list_at 1000000 layer_at) old vias.0 m.0.0.0 vias.1 in
     let few = number_within 0 100000 old layers.0 m.0.0.0.0 layers.1 in
     let same : m.0.0.0.0 ≡ t.units = ap (λ (t : Technology). t.units) m.2 in
     omega (arith, few, same)

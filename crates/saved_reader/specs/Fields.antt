@@ -3,7 +3,6 @@ use Rattle.std.specs.Prelude.{◌==◌, ◌&&◌, Bool, true, false, List, ℕ, 
 use Rattle.std.specs.List.{find}
 use Rattle.std.specs.Str.{bytes_eq}
 use Rattle.odb_base.specs.Name.{name_fault}
-use Rattle.odb_base.specs.declared.name.TheConstants.{NAME_LIMIT}
 use Rattle.odb_fields.specs.Reading.{bytes_at, i32_at, u32_at, u8_at}
 use Rattle.lawful_parts.specs.Tests.{is_coordinate}
 use Rattle.saved_reader.specs.Reading.{Reading, judged, plain, ◌by◌}
@@ -78,7 +77,7 @@ abbrev pub is_name : List ℕ → Bool
 is_name bytes = is_none (name_fault bytes)
 
 unfoldable pub name_at : Reading (List ℕ)
-name_at input = judged (such is_name) (text_at 1 NAME_LIMIT) input
+name_at input = judged (such is_name) (text_at 1 4095) input
 
 -- just this text
 unfoldable pub word_at : List ℕ → Reading (List ℕ)

@@ -5,7 +5,6 @@ use Rattle.odb_base.specs.Usage.{usage_code, usages}
 use Rattle.odb_base.specs.declared.codes.direction.Direction.{Direction}
 use Rattle.odb_base.specs.declared.codes.usage.Usage.{Usage}
 use Rattle.odb_base.specs.declared.geometry.Shape.{Shape}
-use Rattle.library.specs.declared.library.TheConstants.{MASTER_LIMIT}
 use Rattle.library.specs.declared.master.Master.{Master}
 use Rattle.library.specs.declared.mterm.MTerm.{MTerm}
 use Rattle.saved_reader.specs.Fields.{any_text_at, coded_at, coordinate_at, id_at, name_at, small_at}
@@ -49,4 +48,4 @@ master_at input = made master_of (
 
 -- the masters, in the order of their identifiers
 unfoldable pub library_at : Reading (List Master)
-library_at input = list_at MASTER_LIMIT master_at input
+library_at input = list_at 1000000 master_at input

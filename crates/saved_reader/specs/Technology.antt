@@ -11,7 +11,6 @@ use Rattle.tech.specs.Technology.{Technology}
 use Rattle.tech.specs.declared.layer.Layer.{Layer}
 use Rattle.tech.specs.declared.site.Site.{Site}
 use Rattle.tech.specs.declared.symmetry.Symmetry.{Symmetry}
-use Rattle.tech.specs.declared.tech.TheConstants.{LIST_LIMIT}
 use Rattle.tech.specs.declared.via.TechVia.{TechVia}
 use Rattle.lawful_parts.specs.Lawful.{orient_of}
 use Rattle.saved_reader.specs.Fields.{coded_at, coordinate_at, flag_at, name_at, number_at, small_at, such}
@@ -70,5 +69,5 @@ technology_of t = record { units = t.0.0.0; layers = t.0.0.1; vias = t.0.1; site
 -- the technology: the units, and layers, vias and sites, each in the order of their identifiers
 unfoldable pub tech_at : Reading Technology
 tech_at input = made technology_of (
-    number_at 0 100000 & list_at LIST_LIMIT layer_at & list_at LIST_LIMIT via_at & list_at LIST_LIMIT site_at
+    number_at 0 100000 & list_at 1000000 layer_at & list_at 1000000 via_at & list_at 1000000 site_at
     ) input

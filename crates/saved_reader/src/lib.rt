@@ -32,6 +32,3 @@ pub mod technology;
 pub use fault::ReadFault;
 pub use reading::read_saved;
 pub use saved::{Saved, SavedTech};
-
-#[cfg(test)]
-mod tests;

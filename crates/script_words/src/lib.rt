@@ -26,6 +26,3 @@ pub use command_words::Command;
 pub use fault::LineFault;
 pub use file_name::FileName;
 pub use request::command;
-
-#[cfg(test)]
-mod tests;

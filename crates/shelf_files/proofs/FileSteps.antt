@@ -15,7 +15,6 @@ use Rattle.odb_outside.specs.declared.fault.WriteFault.TheVariants as write
 use Rattle.odb_outside.proofs.FileLaws.{own}
 use Rattle.shelf_files.specs.Whole.{AreNow, IsRestRead, Writes, WritesPart}
 use Rattle.shelf_files.specs.declared.reading.FileRead.TheVariants as read
-use Rattle.shelf_files.specs.declared.reading.TheConstants.{FILE_LIMIT}
 
 same-name : (name : List ℕ) → slice_cmp nat_cmp name name ≡ Equal
 same-name [] = refl
@@ -138,7 +137,7 @@ taken_on (Some was) (Some mid) now bytes piece n taken reads =
     )
 
 -- nothing is left
-pub taken_all : (was mid now : Option Told) (given : Vec ℕ Global) (piece : List ℕ) → IsTaken was given.items mid → ReadsFile {E = Failed} mid now (Ok 0) piece → 0 < length piece → length given.items ≤ FILE_LIMIT → IsRestRead was (read.Bytes given)
+pub taken_all : (was mid now : Option Told) (given : Vec ℕ Global) (piece : List ℕ) → IsTaken was given.items mid → ReadsFile {E = Failed} mid now (Ok 0) piece → 0 < length piece → length given.items ≤ 4294967295 → IsRestRead was (read.Bytes given)
 taken_all None mid now given piece taken reads some within = tt
 taken_all (Some was) None now given piece taken reads some within = absurd taken
 taken_all (Some was) (Some mid) now given piece taken reads some within =
@@ -146,7 +145,7 @@ taken_all (Some was) (Some mid) now given piece taken reads some within =
     (sym all, rw all within)
 
 -- too much was read
-pub taken_much : (was mid now : Option Told) (bytes piece : List ℕ) (n : ℕ) → IsTaken was bytes mid → ReadsFile {E = Failed} mid now (Ok n) piece → n ≤ length piece → FILE_LIMIT < length bytes + n → IsRestRead was read.TooLong
+pub taken_much : (was mid now : Option Told) (bytes piece : List ℕ) (n : ℕ) → IsTaken was bytes mid → ReadsFile {E = Failed} mid now (Ok n) piece → n ≤ length piece → 4294967295 < length bytes + n → IsRestRead was read.TooLong
 taken_much None mid now bytes piece n taken reads within much = tt
 taken_much (Some was) None now bytes piece n taken reads within much = absurd taken
 taken_much (Some was) (Some mid) now bytes piece n taken reads within much =

@@ -4,13 +4,12 @@ use Rattle.odb_outside.specs.Files.{File, file_of, with_file}
 use Rattle.odb_outside.specs.Shelves.{Told}
 use Rattle.shelf_files.specs.declared.reading.FileRead.{FileRead}
 use Rattle.shelf_files.specs.declared.reading.FileRead.TheVariants as read
-use Rattle.shelf_files.specs.declared.reading.TheConstants.{FILE_LIMIT}
 
 -- reading a file of these bytes gave this
 abbrev pub IsReadWhole : List ℕ → FileRead → Type 0
-IsReadWhole bytes (read.Bytes given) = (given.items ≡ bytes) × (length bytes ≤ FILE_LIMIT)
+IsReadWhole bytes (read.Bytes given) = (given.items ≡ bytes) × (length bytes ≤ 4294967295)
 IsReadWhole bytes read.NoFile = ⊥
-IsReadWhole bytes read.TooLong = FILE_LIMIT < length bytes
+IsReadWhole bytes read.TooLong = 4294967295 < length bytes
 
 -- the same, where there may be no file
 abbrev pub IsFileRead : Option (List ℕ) → FileRead → Type 0

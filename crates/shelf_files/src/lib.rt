@@ -14,6 +14,3 @@ mod writing;
 pub use fault::FileFault;
 pub use reading::{FILE_LIMIT, FileRead, read_file};
 pub use writing::write_file;
-
-#[cfg(test)]
-mod tests;

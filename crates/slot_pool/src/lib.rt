@@ -23,6 +23,3 @@ pub use fault::PoolFault;
 pub use free_ids::FreeIds;
 pub use laws::{good_after_moves, good_tables, records_after_moves};
 pub use pool::{SlotPool, Taken};
-
-#[cfg(test)]
-mod tests;

@@ -24,6 +24,3 @@ pub use site::Site;
 pub use symmetry::Symmetry;
 pub use tech::{LIST_LIMIT, Tech};
 pub use via::TechVia;
-
-#[cfg(test)]
-mod tests;

@@ -25,14 +25,13 @@ pub struct Tech {
 }
 
 impl Model for Tech {
-    ghost use Rattle.tech.specs.declared.tech.TheConstants.{LIST_LIMIT};
     ghost use Rattle.tech.specs.Technology.{HasFewParts, Technology};
 
     ghost Value = { Technology };
 
     ghost view = { λ t. record { units = t.units; layers = t.layers; vias = t.vias; sites = t.sites } };
 
-    ghost invariant = { λ t. HasFewParts LIST_LIMIT (record { units = t.units; layers = t.layers; vias = t.vias; sites = t.sites }) };
+    ghost invariant = { λ t. HasFewParts 1000000 (record { units = t.units; layers = t.layers; vias = t.vias; sites = t.sites }) };
 }
 
 impl Tech {
@@ -65,7 +64,7 @@ impl Tech {
     /// How many layers, vias and sites there are.
     pub fn counts(&self) -> [u32; 3]
         ensures counts { result ≡ length self.now.layers ∷ length self.now.vias ∷ length self.now.sites ∷ [] }
-        ensures limit { HasFewParts LIST_LIMIT self.now }
+        ensures limit { HasFewParts 1000000 self.now }
         ensures distinct { HasDistinctParts self.now }
     {
         [self.layers.count(), self.vias.count(), self.sites.count()]
@@ -141,7 +140,7 @@ impl Tech {
     /// [`LIST_LIMIT`]. A refusal leaves the technology as it was, and the layer is dropped.
     pub fn add_layer(&mut self, layer: Layer) -> Result<LayerId, AllocError>
         requires new { find_layer self.old layer.name ≡ None }
-        requires room { length self.old.layers < LIST_LIMIT }
+        requires room { length self.old.layers < 1000000 }
         ensures ok { OnOk result (self.new ≡ with_layer layer self.old) }
         ensures id { IfOk result (λ id. id.0 ≡ length self.old.layers + 1) }
         ensures err { OnErr result (self.new ≡ self.old) }
@@ -154,7 +153,7 @@ impl Tech {
     /// [`LIST_LIMIT`]. A refusal leaves the technology as it was, and the via is dropped.
     pub fn add_via(&mut self, via: TechVia) -> Result<ViaId, AllocError>
         requires new { find_via self.old via.name ≡ None }
-        requires room { length self.old.vias < LIST_LIMIT }
+        requires room { length self.old.vias < 1000000 }
         ensures ok { OnOk result (self.new ≡ with_via via self.old) }
         ensures id { IfOk result (λ id. id.0 ≡ length self.old.vias + 1) }
         ensures err { OnErr result (self.new ≡ self.old) }
@@ -167,7 +166,7 @@ impl Tech {
     /// [`LIST_LIMIT`]. A refusal leaves the technology as it was, and the site is dropped.
     pub fn add_site(&mut self, site: Site) -> Result<SiteId, AllocError>
         requires new { find_site self.old site.name ≡ None }
-        requires room { length self.old.sites < LIST_LIMIT }
+        requires room { length self.old.sites < 1000000 }
         ensures ok { OnOk result (self.new ≡ with_site site self.old) }
         ensures id { IfOk result (λ id. id.0 ≡ length self.old.sites + 1) }
         ensures err { OnErr result (self.new ≡ self.old) }

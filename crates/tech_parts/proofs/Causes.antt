@@ -7,13 +7,10 @@ use Rattle.std.proofs.lemmas.Bool.Decides.{nat_tests}
 use Rattle.tech.specs.Technology.{find_layer, find_site, find_via}
 use Rattle.tech.specs.declared.layer.Layer.{Layer}
 use Rattle.tech.specs.declared.site.Site.{Site}
-use Rattle.tech.specs.declared.tech.TheConstants.{LIST_LIMIT}
 use Rattle.tech.specs.declared.via.TechVia.{TechVia}
 use Rattle.library.specs.Masters.{find_master}
-use Rattle.library.specs.declared.library.TheConstants.{MASTER_LIMIT}
 use Rattle.library.specs.declared.master.Master.{Master}
 use Rattle.lawful_parts.specs.Lawful.{IsLayer, IsMaster, IsSite, IsTechVia}
-use Rattle.lawful_parts.specs.declared.shapes.TheConstants.{UNIT_LIMIT}
 use Rattle.lawful_parts.proofs.MasterTests.{master_is_tested}
 use Rattle.lawful_parts.proofs.PartTests.{layer_is_tested, site_is_tested, via_is_tested}
 use Rattle.edit_words.specs.declared.part.TechPart.TheVariants as part
@@ -34,7 +31,7 @@ may_enter None true limit count h = elim (cases_Bool (nat_le limit count)) [
   | inr e ↦ record { new = refl; lawful = refl; room = grind (arith, nat_tests, e) }
 ]
 
-units_may : (had n : ℕ) → units_cause had n ≡ None → n ≤ UNIT_LIMIT
+units_may : (had n : ℕ) → units_cause had n ≡ None → n ≤ 100000
 units_may had n h = elim (cases_Bool (are_changed had n)) [
   | inl changed ↦ let some = rw changed at h in absurd cc
   | inr same ↦ elim (cases_Bool (are_units n)) [
@@ -43,14 +40,14 @@ units_may had n h = elim (cases_Bool (are_changed had n)) [
   ]
 ]
 
-pub units_are_few : (d : Database) (n : ℕ) → cause_of d (part.Units n) ≡ None → n ≤ UNIT_LIMIT
+pub units_are_few : (d : Database) (n : ℕ) → cause_of d (part.Units n) ≡ None → n ≤ 100000
 unfolding cause_of
 units_are_few d n h = units_may d.tech.units n h
 
 pub record LayerMay (d : Database) (l : Layer) : Type 0 where
   pub lawful : IsLayer l
   pub new : find_layer d.tech l.name ≡ None
-  pub room : length d.tech.layers < LIST_LIMIT
+  pub room : length d.tech.layers < 1000000
 
 pub layer_may : (d : Database) (l : Layer) → cause_of d (part.Layer l) ≡ None → LayerMay d l
 unfolding cause_of
@@ -61,7 +58,7 @@ layer_may d l h =
 pub record ViaMay (d : Database) (v : TechVia) : Type 0 where
   pub lawful : IsTechVia d.tech v
   pub new : find_via d.tech v.name ≡ None
-  pub room : length d.tech.vias < LIST_LIMIT
+  pub room : length d.tech.vias < 1000000
 
 pub via_may : (d : Database) (v : TechVia) → cause_of d (part.Via v) ≡ None → ViaMay d v
 unfolding cause_of
@@ -72,7 +69,7 @@ via_may d v h =
 pub record SiteMay (d : Database) (s : Site) : Type 0 where
   pub lawful : IsSite s
   pub new : find_site d.tech s.name ≡ None
-  pub room : length d.tech.sites < LIST_LIMIT
+  pub room : length d.tech.sites < 1000000
 
 pub site_may : (d : Database) (s : Site) → cause_of d (part.Site s) ≡ None → SiteMay d s
 unfolding cause_of
@@ -83,7 +80,7 @@ site_may d s h =
 pub record MasterMay (d : Database) (m : Master) : Type 0 where
   pub lawful : IsMaster d.tech m
   pub new : find_master d.library m.name ≡ None
-  pub room : length d.library < MASTER_LIMIT
+  pub room : length d.library < 1000000
 
 pub master_may : (d : Database) (m : Master) → cause_of d (part.Master m) ≡ None → MasterMay d m
 unfolding cause_of

@@ -1,11 +1,8 @@
 -- Entering parts into a database.
 use Rattle.std.specs.Prelude.{option_map, ◌≡◌, ◌==◌, ◌+◌, ◌-◌, ◌&&◌, ◌⊎◌, Bool, true, false, List, [], ◌∷◌, ℕ, Option, None, Some, Result, Ok, Err, if◌then◌else◌, is_some, length, nat_le, nat_lt, not}
 use Rattle.tech.specs.Technology.{find_layer, find_site, find_via, with_layer, with_site, with_units, with_via}
-use Rattle.tech.specs.declared.tech.TheConstants.{LIST_LIMIT}
 use Rattle.library.specs.Masters.{find_master}
-use Rattle.library.specs.declared.library.TheConstants.{MASTER_LIMIT}
 use Rattle.lawful_parts.specs.Tests.{is_layer, is_master, is_site, is_tech_via}
-use Rattle.lawful_parts.specs.declared.shapes.TheConstants.{UNIT_LIMIT}
 use Rattle.edit_words.specs.declared.part.TechPart.{TechPart}
 use Rattle.edit_words.specs.declared.part.TechPart.TheVariants as part
 use Rattle.block_store.specs.Database.{Database, with_master, with_tech}
@@ -21,7 +18,7 @@ are_changed had got = not (had == 0) && not (had == got)
 
 -- units are 1 to 100,000
 abbrev pub are_units : ℕ → Bool
-are_units n = nat_le 1 n && nat_le n UNIT_LIMIT
+are_units n = nat_le 1 n && nat_le n 100000
 
 -- the first of these that holds: the part's name is taken, it isn't lawful, the list is full
 abbrev pub first_cause : Bool → Bool → Bool → Option PartCause
@@ -40,10 +37,10 @@ units_cause had got =
 -- why a part isn't entered, if it isn't
 unfoldable pub cause_of : Database → TechPart → Option PartCause
 cause_of d (part.Units n) = units_cause d.tech.units n
-cause_of d (part.Layer l) = first_cause (is_some (find_layer d.tech l.name)) (is_layer l) (nat_le LIST_LIMIT (length d.tech.layers))
-cause_of d (part.Via v) = first_cause (is_some (find_via d.tech v.name)) (is_tech_via d.tech v) (nat_le LIST_LIMIT (length d.tech.vias))
-cause_of d (part.Site s) = first_cause (is_some (find_site d.tech s.name)) (is_site s) (nat_le LIST_LIMIT (length d.tech.sites))
-cause_of d (part.Master m) = first_cause (is_some (find_master d.library m.name)) (is_master d.tech m) (nat_le MASTER_LIMIT (length d.library))
+cause_of d (part.Layer l) = first_cause (is_some (find_layer d.tech l.name)) (is_layer l) (nat_le 1000000 (length d.tech.layers))
+cause_of d (part.Via v) = first_cause (is_some (find_via d.tech v.name)) (is_tech_via d.tech v) (nat_le 1000000 (length d.tech.vias))
+cause_of d (part.Site s) = first_cause (is_some (find_site d.tech s.name)) (is_site s) (nat_le 1000000 (length d.tech.sites))
+cause_of d (part.Master m) = first_cause (is_some (find_master d.library m.name)) (is_master d.tech m) (nat_le 1000000 (length d.library))
 
 -- the fault of the part at this place
 abbrev pub fault_at : ℕ → PartCause → PartFault

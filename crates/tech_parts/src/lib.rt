@@ -14,6 +14,3 @@ mod standing;
 
 pub use adding::{Added, add_parts};
 pub use fault::PartFault;
-
-#[cfg(test)]
-mod tests;

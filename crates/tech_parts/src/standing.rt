@@ -1,7 +1,6 @@
 ghost use Rattle.std.specs.Prelude.{◌≡◌, ◌≤◌, length};
 ghost use Rattle.block_store.specs.Database.{IsSoundDatabase};
 ghost use Rattle.tech_parts.specs.Standing.{back_to, standing_of};
-ghost use Rattle.lawful_parts.specs.declared.shapes.TheConstants.{UNIT_LIMIT};
 
 use block_store::Database;
 
@@ -33,7 +32,7 @@ impl Standing {
 
     // Takes back what was entered since, where what stood then is sound.
     pub fn restore(self, db: &mut Database)
-        requires units { self.units ≤ UNIT_LIMIT }
+        requires units { self.units ≤ 100000 }
         requires layers { self.layers ≤ length db.old.tech.layers }
         requires vias { self.vias ≤ length db.old.tech.vias }
         requires sites { self.sites ≤ length db.old.tech.sites }

@@ -11,7 +11,6 @@ use Rattle.odb_base.specs.Name.{name_fault}
 use Rattle.odb_base.proofs.Names.{name_is_short}
 use Rattle.wires.specs.declared.fields.TextSort.{TextSort}
 use Rattle.wires.specs.declared.fields.TextSort.TheVariants as sort
-use Rattle.wires.specs.declared.fields.TheConstants.{LIMIT}
 use Rattle.wires.specs.Fields.{is_between, is_from_to, is_name, text_fits}
 
 -- a number is at most the greatest of its range
@@ -19,8 +18,8 @@ pub between_below : (least most n : ℕ) → is_between least most n ≡ true �
 between_below least most n h = let p = and_parts (leb least n) (leb n most) h in (leb-true least n p.0, leb-true n most p.1)
 
 -- a number within a range is at least the one end and at most the other
-from_to_parts : (least z : ℤ) → is_from_to least z ≡ true → (le_z least z ≡ true) × (le_z z LIMIT ≡ true)
-from_to_parts least z h = and_parts (le_z least z) (le_z z LIMIT) h
+from_to_parts : (least z : ℤ) → is_from_to least z ≡ true → (le_z least z ≡ true) × (le_z z (pos 2000000000) ≡ true)
+from_to_parts least z h = and_parts (le_z least z) (le_z z (pos 2000000000)) h
 
 -- a size within the limit has 32 bits
 pub size_fits : (z : ℤ) → is_from_to (pos 0) z ≡ true → FitsSigned w32 z
@@ -28,9 +27,9 @@ size_fits (pos n) h = let p = from_to_parts (pos 0) (pos n) h in fits_signed_fro
 size_fits (negsuc n) h = let p = from_to_parts (pos 0) (negsuc n) h in absurd (grind (arith, ints, nat_tests))
 
 -- a coordinate has 32 bits
-pub coordinate_fits : (z : ℤ) → is_from_to (neg_ℤ LIMIT) z ≡ true → FitsSigned w32 z
-coordinate_fits (pos n) h = let p = from_to_parts (neg_ℤ LIMIT) (pos n) h in fits_signed_from_abs w32 (pos n) (grind (arith, ints, nat_tests))
-coordinate_fits (negsuc n) h = let p = from_to_parts (neg_ℤ LIMIT) (negsuc n) h in fits_signed_from_abs w32 (negsuc n) (grind (arith, ints, nat_tests))
+pub coordinate_fits : (z : ℤ) → is_from_to (neg_ℤ (pos 2000000000)) z ≡ true → FitsSigned w32 z
+coordinate_fits (pos n) h = let p = from_to_parts (neg_ℤ (pos 2000000000)) (pos n) h in fits_signed_from_abs w32 (pos n) (grind (arith, ints, nat_tests))
+coordinate_fits (negsuc n) h = let p = from_to_parts (neg_ℤ (pos 2000000000)) (negsuc n) h in fits_signed_from_abs w32 (negsuc n) (grind (arith, ints, nat_tests))
 
 -- bytes without a fault are a name
 no_fault : (o : Option NameFault) → is_none o ≡ true → o ≡ None

@@ -1,12 +1,11 @@
 -- Reading one field of a code, with a rule on its value.
-use Rattle.std.specs.Prelude.{◌≡◌, ◌&&◌, ◌||◌, ◌==◌, Bool, List, ℕ, ℤ, Result, Ok, Err, if◌then◌else◌, is_none, length, nat_le}
+use Rattle.std.specs.Prelude.{◌≡◌, ◌&&◌, ◌||◌, ◌==◌, Bool, List, ℕ, ℤ, pos, Result, Ok, Err, if◌then◌else◌, is_none, length, nat_le}
 use Rattle.std.specs.Int.Signed.{le_z}
 use Rattle.odb_fields.specs.declared.get.Cut.{Cut}
 use Rattle.odb_fields.specs.Reading.{Cursor}
 use Rattle.odb_base.specs.Name.{name_fault}
 use Rattle.wires.specs.declared.fields.TextSort.{TextSort}
 use Rattle.wires.specs.declared.fields.TextSort.TheVariants as sort
-use Rattle.wires.specs.declared.fields.TheConstants.{LIMIT}
 use Rattle.wires.specs.declared.fault.WireFault.{WireFault}
 use Rattle.wires.specs.declared.fault.WireFault.TheVariants as fault
 
@@ -16,7 +15,7 @@ is_between least most n = nat_le least n && nat_le n most
 
 -- the number is at least this and within the limit of coordinates
 abbrev pub is_from_to : ℤ → ℤ → Bool
-is_from_to least z = le_z least z && le_z z LIMIT
+is_from_to least z = le_z least z && le_z z (pos 2000000000)
 
 -- the bytes are a name
 abbrev pub is_name : List ℕ → Bool

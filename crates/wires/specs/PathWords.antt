@@ -3,7 +3,6 @@ use Rattle.std.specs.Prelude.{◌+◌, ◌-◌, ◌*◌, ◌==◌, ◌&&◌, ◌
 use Rattle.std.specs.List.{list_all}
 use Rattle.std.specs.Str.{bytes_eq}
 use Rattle.odb_base.specs.declared.codes.orient.Orient.{Orient}
-use Rattle.odb_base.specs.declared.geometry.TheConstants.{COORDINATE_LIMIT}
 use Rattle.odb_base.specs.Orient.{orient_word, orients}
 use Rattle.wires.specs.declared.path_word.PathWord.{PathWord}
 use Rattle.wires.specs.declared.path_word.PathWord.TheVariants as word
@@ -60,7 +59,7 @@ with_digit n b = n * 10 + (b - 48)
 -- the number with these digits behind its own, where they are digits and it is within the limit of coordinates
 abbrev pub number_with : ℕ → List ℕ → Option ℕ
 number_with n digits =
-    if list_all is_digit digits && nat_le (fold with_digit n digits) COORDINATE_LIMIT then Some (fold with_digit n digits) else None
+    if list_all is_digit digits && nat_le (fold with_digit n digits) 2000000000 then Some (fold with_digit n digits) else None
 
 -- one digit or more, as a number
 abbrev pub magnitude_of : List ℕ → Option ℕ

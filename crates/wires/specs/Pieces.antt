@@ -7,7 +7,6 @@ use Rattle.odb_base.specs.Orient.{orients, orient_code}
 use Rattle.odb_fields.specs.Fields.{u8_bytes, u32_bytes, i32_bytes, text_bytes}
 use Rattle.wires.specs.declared.fields.TextSort.{TextSort}
 use Rattle.wires.specs.declared.fields.TextSort.TheVariants as sort
-use Rattle.wires.specs.declared.fields.TheConstants.{LIMIT}
 use Rattle.wires.specs.declared.limits.Limits.{Limits}
 use Rattle.wires.specs.declared.item.Item.{Item}
 use Rattle.wires.specs.declared.item.Item.TheVariants as item
@@ -78,7 +77,7 @@ code_of pieces = flat_map piece_bytes pieces
 
 -- a coordinate
 abbrev pub is_coordinate : ℤ → Bool
-is_coordinate z = is_from_to (neg_ℤ LIMIT) z
+is_coordinate z = is_from_to (neg_ℤ (pos 2000000000)) z
 
 -- an extension is none or not below 0
 abbrev pub is_ext : Option ℤ → Bool

@@ -43,6 +43,3 @@ pub use laws::{accepted_codes_are_decoded, codes_are_read_back, codes_have_one_s
 pub use parsing::parse;
 pub use path::{Element, NamedPaths, Path, Paths, Taper, ViaRef};
 pub use path_reader::PathReader;
-
-#[cfg(test)]
-mod tests;

@@ -41,7 +41,7 @@ fn is_decimal_digit(byte: u8) -> bool
 
 fn magnitude(digits: &[u8]) -> Option<u64>
     ensures value { result ≡ magnitude_of digits.now }
-    ensures bound { IfSome result (λ n. n ≤ LIMIT) }
+    ensures bound { IfSome result (λ n. n ≤ 2000000000) }
 {
     if digits.is_empty() {
         None
@@ -52,7 +52,7 @@ fn magnitude(digits: &[u8]) -> Option<u64>
 
 fn number_of_digits(mut digits: &[u8]) -> Option<u64>
     ensures value { result ≡ number_with 0 digits.now }
-    ensures bound { IfSome result (λ n. n ≤ LIMIT) }
+    ensures bound { IfSome result (λ n. n ≤ 2000000000) }
 {
     let mut number = 0u64;
     'digits: while let [first, rest @ ..] = digits {
@@ -69,7 +69,7 @@ fn number_of_digits(mut digits: &[u8]) -> Option<u64>
 }
 
 fn with_sign(negative: bool, magnitude: u64) -> i32
-    requires { magnitude ≤ LIMIT }
+    requires { magnitude ≤ 2000000000 }
     ensures { result ≡ signed negative magnitude }
 {
     let number = magnitude as i32;

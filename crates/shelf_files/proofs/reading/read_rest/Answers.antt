@@ -1,7 +1,6 @@
 use Rattle.std.proofs.Common.{◌<◌, ◌+◌, ◌∙◌, refl, sym, ap, subst, arith, length, take, length-append}
 use Rattle.std.proofs.lemmas.List.{length-take-le}
 use Rattle.std.proofs.lemmas.Result.{err_from_is_err_and}
-use Rattle.shelf_files.specs.declared.reading.TheConstants.{FILE_LIMIT}
 use Rattle.shelf_files.proofs.FileSteps.{IsTaken, taken_all, taken_first, taken_much, taken_on}
 use Rattle.shelf_files.proofs.reading.read_rest.Goals as goal
 
@@ -30,7 +29,7 @@ returns-then-n-eq0-clause-cause g c = record { later = omega (arith, c.pieces.in
 pub returns-then-n-len-clause-rest : goal.returns-then-n-len-clause-rest
 returns-then-n-len-clause-rest g c =
     let shelf = g.F.Shelf in
-    let much : FILE_LIMIT < length c.pieces.bytes.items + c.in_ok-n.n = omega (arith, c.if-n-len.true, c.len.ensures, c.pieces.bytes.ok.0, c.pieces.invariant.within) in
+    let much : 4294967295 < length c.pieces.bytes.items + c.in_ok-n.n = omega (arith, c.if-n-len.true, c.len.ensures, c.pieces.bytes.ok.0, c.pieces.invariant.within) in
     taken_much (shelf.told c.args.shelf.now) (shelf.told c.pieces.shelf) (shelf.told c.read.new.self) c.pieces.bytes.items c.read.new.into c.in_ok-n.n c.pieces.invariant.taken c.in_ok-n.ensures.reads c.in_ok-n.ensures.bound much
 
 pub returns-then-n-len-clause-cause : goal.returns-then-n-len-clause-cause

@@ -1,6 +1,5 @@
 use Rattle.std.proofs.Common.{◌≡◌, ◌<◌, None, length, ap, sym, ◌∙◌, subst}
 use Rattle.library.specs.Masters.{find_master}
-use Rattle.library.specs.declared.library.TheConstants.{MASTER_LIMIT}
 use Rattle.block_store.proofs.Databases.{sound_with_master}
 use Rattle.block_store.proofs.database.Database.add_master.Goals as goal
 

@@ -1,6 +1,5 @@
 use Rattle.std.proofs.Common.{◌≡◌, ◌<◌, None, length, ap, sym, ◌∙◌, subst}
 use Rattle.tech.specs.Technology.{find_site}
-use Rattle.tech.specs.declared.tech.TheConstants.{LIST_LIMIT}
 use Rattle.block_store.proofs.Databases.{sound_with_site}
 use Rattle.block_store.proofs.database.Database.add_site.Goals as goal
 

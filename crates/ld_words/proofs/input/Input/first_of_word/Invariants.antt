@@ -1,6 +1,5 @@
 -- The reading goes on between words.
 use Rattle.std.proofs.Common.{◌≡◌, ◌+◌, ◌-◌, ◌≤◌, IsTrue, length}
-use Rattle.ld_words.specs.declared.word.TheConstants.{TEXT_LIMIT}
 use Rattle.ld_words.specs.Input.{reading_at}
 use Rattle.ld_words.specs.Reading.{Between}
 use Rattle.ld_words.specs.Told.{SameIfTold}
@@ -18,4 +17,4 @@ invariant-seeking g l =
     }
 
 abbrev pub decreases-seeking : goal.decreases-seeking
-decreases-seeking g l = (TEXT_LIMIT - (l.self.taken + length l.self.window)) + (TEXT_LIMIT - l.self.taken)
+decreases-seeking g l = (4294967295 - (l.self.taken + length l.self.window)) + (4294967295 - l.self.taken)

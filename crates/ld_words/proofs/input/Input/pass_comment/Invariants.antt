@@ -1,6 +1,5 @@
 -- The reading goes on in the comment.
 use Rattle.std.proofs.Common.{◌≡◌, ◌+◌, ◌-◌, ◌≤◌, ◌<◌, IsTrue, length}
-use Rattle.ld_words.specs.declared.word.TheConstants.{TEXT_LIMIT}
 use Rattle.ld_words.specs.Input.{reading_at}
 use Rattle.ld_words.specs.Reading.{Between, Comment}
 use Rattle.ld_words.specs.Told.{SameIfTold}
@@ -19,4 +18,4 @@ invariant-comment g l =
     }
 
 abbrev pub decreases-comment : goal.decreases-comment
-decreases-comment g l = TEXT_LIMIT - (l.self.taken + length l.self.window)
+decreases-comment g l = 4294967295 - (l.self.taken + length l.self.window)

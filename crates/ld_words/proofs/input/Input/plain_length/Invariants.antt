@@ -1,7 +1,6 @@
 -- The first bytes at hand are those of the word, and were seen so far.
 use Rattle.std.proofs.Common.{◌≡◌, ◌+◌, ◌-◌, ◌≤◌, IsTrue, true, not, length, take}
 use Rattle.std.specs.List.{list_all}
-use Rattle.ld_words.specs.declared.word.TheConstants.{TEXT_LIMIT}
 use Rattle.ld_words.specs.Input.{BeginsPlain, Stays, reading_at}
 use Rattle.ld_words.specs.Reading.{Between, is_blank}
 use Rattle.ld_words.specs.Told.{SameIfTold}
@@ -22,4 +21,4 @@ invariant-plain g l =
     }
 
 abbrev pub decreases-plain : goal.decreases-plain
-decreases-plain g l = TEXT_LIMIT - (l.self.taken + length l.self.window)
+decreases-plain g l = 4294967295 - (l.self.taken + length l.self.window)

@@ -1,7 +1,6 @@
 use Rattle.std.proofs.Common.{ap, ◌∙◌, sym, rules, arith, ◌-◌, ◌+◌, ◌≡◌, ◌≤◌, not, take, drop, length, true, List, ℕ, Option, None, position, ◌<◌}
 use Rattle.std.proofs.lemmas.List.{drop-drop, drop-take, length-drop, take_all, take_rest}
 use Rattle.std.specs.List.{list_all}
-use Rattle.ld_words.specs.declared.word.TheConstants.{WORD_LIMIT}
 use Rattle.ld_words.specs.Input.{HasWord, reading_at}
 use Rattle.ld_words.specs.Told.{ShowsFault}
 use Rattle.ld_words.specs.Reading.{Between, is_quote, line_feeds}
@@ -53,7 +52,7 @@ returns-then-held-gt-WORD_LIMIT-clause-fault g c =
     let now = c.quoted.self in
     let loop = c.quoted.invariant in
     let all = all_quoted now.window c.bytes-bytes.result.now c.quoted.seen c.first_quote.result c.bytes-bytes.ensures.value c.first_quote.ensures c.in_default.is loop.quoted in
-    let held : WORD_LIMIT < length now.window = omega (arith, c.if-held-gt-WORD_LIMIT.true, ap length c.bytes-bytes.ensures.value) in
+    let held : 65535 < length now.window = omega (arith, c.if-held-gt-WORD_LIMIT.true, ap length c.bytes-bytes.ensures.value) in
     let front : list_all (λ b. not (is_quote b)) (take (length now.window) (drop 1 now.window)) ≡ true = rw (take_all (length now.window) (drop 1 now.window) (omega (arith, length-drop 1 now.window))) all in
     same_on (reading_at left Between c.args.self.now) (reading_at left Between now) _ loop.reading
     (quoted_long left now (length now.window) loop.begins front (omega (arith, held)) held)

@@ -1,7 +1,6 @@
 -- The first bytes at hand are those of the word, and behind its first quote so many were seen so far.
 use Rattle.std.proofs.Common.{◌≡◌, ◌+◌, ◌-◌, ◌≤◌, IsTrue, true, not, length, take, drop}
 use Rattle.std.specs.List.{list_all}
-use Rattle.ld_words.specs.declared.word.TheConstants.{TEXT_LIMIT}
 use Rattle.ld_words.specs.Input.{BeginsQuoted, Stays, reading_at}
 use Rattle.ld_words.specs.Reading.{Between, is_quote}
 use Rattle.ld_words.specs.Told.{SameIfTold}
@@ -22,4 +21,4 @@ invariant-quoted g l =
     }
 
 abbrev pub decreases-quoted : goal.decreases-quoted
-decreases-quoted g l = TEXT_LIMIT - (l.self.taken + length l.self.window)
+decreases-quoted g l = 4294967295 - (l.self.taken + length l.self.window)
