@@ -1,4 +1,4 @@
-ghost use Rattle.std.specs.Prelude.{◌≡◌, ◌≢◌, ◌<◌, ◌≤◌, [], IfOk, IsTrue, OnErr, OnOk, Some, length, min, option_copied};
+ghost use Rattle.std.specs.Prelude.{◌≡◌, ◌≢◌, ◌<◌, ◌≤◌, [], IfOk, IsErrOf, IsTrue, OnErr, OnOk, Some, length, min, option_copied};
 ghost use Rattle.std.specs.List.{list_all};
 ghost use Rattle.odb_outside.specs.Calls.{fault_count, faults_end, is_call_number};
 ghost use Rattle.odb_outside.specs.Files.{file_of, with_file};
@@ -149,6 +149,7 @@ impl Shelf for MemoryShelf {
         ensures creates { Creates (Some self.old.told) name.now result (Some self.new.told) }
         ensures hand { self.new.hand ≡ in_hand_written Hand.Nothing Hand.Writing result }
         ensures cause { HasWriteCause (fault_count self.old.calls) (fault_count self.new.calls) result }
+        ensures memory { IsErrOf result WriteFault.Memory → fault_count self.new.calls ≡ fault_count self.old.calls }
         ensures counts { CountsWrite self.old self.new result }
     {
         if self.calls.fails_next() {
@@ -173,6 +174,7 @@ impl Shelf for MemoryShelf {
         ensures writes { WritesFile (Some self.old.told) (Some self.new.told) result from.now }
         ensures hand { self.new.hand ≡ in_hand_written Hand.Writing Hand.Writing result }
         ensures cause { HasWriteCause (fault_count self.old.calls) (fault_count self.new.calls) result }
+        ensures memory { IsErrOf result WriteFault.Memory → fault_count self.new.calls ≡ fault_count self.old.calls }
         ensures counts { CountsWrite self.old self.new result }
         ensures moved { IfOk result (λ n. n ≡ min (length from.now) self.old.piece) }
     {
