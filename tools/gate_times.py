@@ -199,7 +199,7 @@ def table(path):
         counted, own, clock = ended
         print(f"rt counted {counted:.1f} s for its commands and {own:.1f} s for itself; {clock / 60:.1f} minutes on the clock")
     else:
-        print("the watch was cut off before the run ended")
+        print("the run had not ended")
 
 
 def compared(path, other):
