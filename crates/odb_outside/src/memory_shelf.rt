@@ -29,20 +29,27 @@ pub struct MemoryShelf {
 
 impl Model for MemoryShelf {
     ghost use Rattle.std.specs.Prelude.{◌<◌};
+    ghost use Rattle.std.specs.Coded.{codes};
+    ghost use Rattle.odb_outside.specs.Ordered.{order_code};
     ghost use Rattle.odb_outside.specs.Shelved.{Shelved};
 
     ghost Value = { Shelved };
 
+    ghost coded = { Prim.hlevel (codes, order_code) };
+
+    ghost use Rattle.odb_outside.specs.Files.{AreInOrder};
+    ghost use Rattle.odb_outside.specs.Ordered.{entered, entered_in_order};
     ghost use Rattle.odb_outside.specs.Shelved.{IsInHand, left_of};
 
     ghost view = { λ s. record {
-      told = record { files = s.files; name = s.name.items; left = left_of s.hand s.at s.taken s.files };
+      told = record { files = entered s.files; name = s.name.items; left = left_of s.hand s.at s.taken s.files };
+      ordered = entered_in_order s.files;
       hand = s.hand;
       piece = s.piece;
       calls = s.calls;
     } };
 
-    ghost invariant = { λ s. (0 < s.piece) × IsInHand s.hand s.at s.taken s.name.items s.files };
+    ghost invariant = { λ s. (0 < s.piece) × IsInHand s.hand s.at s.taken s.name.items s.files × AreInOrder s.files };
 }
 
 impl MemoryShelf {
@@ -98,6 +105,8 @@ impl Shelf for MemoryShelf {
     ghost faults = { λ s. fault_count s.calls };
 
     ghost faults_end = { λ s. faults_end s.calls };
+
+    ghost files_in_order = { λ s. s.ordered };
 
     fn open(&mut self, name: &str) -> Result<(), OpenFault>
         requires { self.old.hand ≡ Hand.Nothing }

@@ -1,6 +1,6 @@
 ghost use Rattle.std.specs.Prelude.{◌≡◌, ◌≢◌, ◌-◌, ◌<◌, ◌≤◌, ◌^◌, List, ℕ, Option, IfOk, IsErrOf, length};
 ghost use Rattle.odb_outside.specs.Outside.{HasCause, HasWriteCause};
-ghost use Rattle.odb_outside.specs.Shelves.{Creates, HasOpenCause, KeepsFiles, Opens, ReadsFile, Told, WritesFile, in_hand, in_hand_written};
+ghost use Rattle.odb_outside.specs.Shelves.{Creates, HasOpenCause, KeepsFiles, Opens, ReadsFile, TellsInOrder, Told, WritesFile, in_hand, in_hand_written};
 
 use crate::fault::{Failed, OpenFault, WriteFault};
 
@@ -74,4 +74,7 @@ pub trait Shelf {
 
     /// The number of faults stops at 2^64 - 1.
     ghost faults_end: { (shelf : Self) → faults shelf ≤ 2 ^ 64 - 1 };
+
+    /// The files that are told stand in the order of their names, each name once.
+    ghost files_in_order: { (shelf : Self) → TellsInOrder (told shelf) };
 }
