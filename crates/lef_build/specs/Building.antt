@@ -14,7 +14,7 @@ use Rattle.lef_build.specs.declared.parts.Parts.{Parts}
 use Rattle.lef_build.specs.Causes.{layer_fault, macro_fault, site_fault, via_fault}
 use Rattle.lef_build.specs.Stated.{layer_of, master_of, site_of, via_of}
 
--- the technology, and the library, once a part is entered
+-- the technology once a part is entered; a master changes the library only
 abbrev pub with_part : Technology → TechPart → Technology
 with_part t (part.Units n) = with_units n t
 with_part t (part.Layer layer) = with_layer layer t
@@ -22,6 +22,7 @@ with_part t (part.Via via) = with_via via t
 with_part t (part.Site site) = with_site site t
 with_part t (part.Master master) = t
 
+-- the library once a part is entered; only a master changes it
 abbrev pub with_master : List Master → TechPart → List Master
 with_master library (part.Units n) = library
 with_master library (part.Layer layer) = library
@@ -29,10 +30,11 @@ with_master library (part.Via via) = library
 with_master library (part.Site site) = library
 with_master library (part.Master master) = library ++ master ∷ []
 
--- the same, once parts are entered one after the other
+-- the technology once parts are entered one after the other
 abbrev pub with_parts : Technology → List TechPart → Technology
 with_parts t parts = fold with_part t parts
 
+-- the library once parts are entered one after the other
 abbrev pub with_masters : List Master → List TechPart → List Master
 with_masters library parts = fold with_master library parts
 
@@ -103,6 +105,7 @@ with_items (Ok b) (i ∷ is) = with_items (with_item b i) is
 abbrev pub start : Technology → List Master → ℕ → Build
 start t library passed = build_of t library [] passed
 
+-- what items come to as the parts and the count that are answered, or the fault
 abbrev pub parts_in : Result Build BuildFault → Result Parts BuildFault
 parts_in (Err why) = Err why
 parts_in (Ok b) = Ok (record { parts = b.parts; passed = b.passed })
