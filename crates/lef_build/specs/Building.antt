@@ -55,7 +55,7 @@ build_of t library parts passed = record {
   passed = passed;
 }
 
--- with one more part
+-- what items come to, with one more part
 abbrev pub entered : TechPart → Build → Build
 entered p b = record {
   tech = with_part b.tech p;
@@ -64,22 +64,22 @@ entered p b = record {
   passed = b.passed;
 }
 
--- with one more that is left out, which stops at 2^64 - 1
+-- what items come to, with one more that is left out; the count stops at 2^64 - 1
 abbrev pub left_out : Build → Build
 left_out b = record b { passed = min (b.passed + 1) (2 ^ 64 - 1) }
 
--- with this part, where there is no cause against it
+-- what items come to with this part, where there is no cause against it
 abbrev pub tried : Option BuildFault → TechPart → Build → Result Build BuildFault
 tried (Some why) p b = Err why
 tried None p b = Ok (entered p b)
 
--- with these units, where they are the ones that stand or none stand
+-- what items come to with these units, where they are the ones that stand or none stand
 abbrev pub with_stated : ℕ → Build → Result Build BuildFault
 with_stated n b =
     if b.tech.units == 0 || b.tech.units == n then Ok (entered (part.Units n) b)
     else Err (fault.UnitsChanged b.tech.units n)
 
--- with one more item, or the first cause why it has no part
+-- what items come to with one more, or the first cause why it has no part
 unfoldable pub with_item : Build → LefItem → Result Build BuildFault
 with_item b (item.Units n) = with_stated n b
 with_item b (item.Layer l) =
@@ -95,7 +95,7 @@ with_item b (item.Macro m) =
     if is_some (find_master b.library m.name) then Ok (left_out b)
     else tried (macro_fault b.tech m) (part.Master (master_of b.tech m)) b
 
--- with the items of a list one after the other, or the first fault
+-- what items come to with those of a list one after the other, or the first fault
 abbrev pub with_items : Result Build BuildFault → List LefItem → Result Build BuildFault
 with_items (Err why) is = Err why
 with_items (Ok b) [] = Ok b
@@ -105,7 +105,7 @@ with_items (Ok b) (i ∷ is) = with_items (with_item b i) is
 abbrev pub start : Technology → List Master → ℕ → Build
 start t library passed = build_of t library [] passed
 
--- what items come to as the parts and the count that are answered, or the fault
+-- the parts that items come to and how many were passed over or left out, or the fault
 abbrev pub parts_in : Result Build BuildFault → Result Parts BuildFault
 parts_in (Err why) = Err why
 parts_in (Ok b) = Ok (record { parts = b.parts; passed = b.passed })

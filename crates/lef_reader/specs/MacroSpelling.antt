@@ -206,6 +206,6 @@ macro_with m (PartIs first words) = (m.0, min (m.1 + 1) (2 ^ 64 - 1))
 abbrev pub macro_text : List ℕ → List MacroLine → Words
 macro_text name lines = codes "MACRO" ∷ name ∷ flat_map macro_words lines ++ codes "END" ∷ name ∷ []
 
--- the macro of this name after these statements, and the count, which began at this number
+-- the macro of this name after these statements, and the count of what was left out, from this number on
 abbrev pub macro_of : List ℕ → ℕ → List MacroLine → Counted
 macro_of name count lines = fold macro_with (new_macro name, count) lines
