@@ -5,8 +5,8 @@ ghost use Rattle.block_store.specs.Names.{IsFree, IsFreeBut};
 ghost use Rattle.odb_base.specs.Ids.{holds};
 ghost use Rattle.odb_base.specs.declared.codes.kind.Kind.TheVariants as kind;
 
-use super::*;
 use block_records::{ITermRec, InstRec, NetRec, Record};
+use block_store::{Block, ListOf, RoomFault};
 use odb_base::codes::Coded;
 use odb_base::{ITermId, InstId, Kind, List, Name, NetId, Placement, Steps, Text, Usage};
 use slot_pool::Taken;

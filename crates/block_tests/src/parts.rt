@@ -1,4 +1,3 @@
-use super::*;
 use block_store::Database;
 use edit_words::TechPart;
 use library::Master;
@@ -7,6 +6,7 @@ use std::alloc::Global;
 use std::process::Abort;
 use std::test::Fail;
 use tech::{Layer, Site, Symmetry, TechVia};
+use tech_parts::{Added, PartFault, add_parts};
 
 #[test]
 fn parts_are_entered_all_or_none(rt: HostRuntime) -> Result<(), Fail> {

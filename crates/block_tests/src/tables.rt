@@ -2,9 +2,9 @@ ghost use Rattle.std.specs.Prelude.{◌≤◌};
 ghost use Rattle.odb_base.specs.declared.codes.kind.Kind.{Kind as AnyKind};
 ghost use Rattle.block_store.specs.Block.{slots_in};
 
-use super::*;
 use block_records::{BTermRec, Header, NetRec};
 use block_store::{BTermEntry, Block, Ids, NetEntry, PlainTable, Tables};
+use block_tables::{FromTables, TablesFault, fits};
 use library::Library;
 use odb_base::{Direction, Kind, Name, Text, Usage};
 use std::alloc::{AllocError, Global};

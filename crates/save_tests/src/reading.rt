@@ -1,5 +1,5 @@
-use super::*;
 use odb_base::Kind;
+use saved_reader::{ReadFault, read_saved};
 use std::alloc::{AllocError, Global};
 use std::test::Fail;
 
