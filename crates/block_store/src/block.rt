@@ -132,37 +132,26 @@ impl Block {
             group,
             prop,
         } = tables;
-        let first = four_pools(inst, iterm, net, bterm, cap);
-        let second = four_pools(pin, row, track, wire, cap);
-        let third = four_pools(blockage, region, group, prop, cap);
-        match (first, second, third) {
-            (
-                Ok((inst, iterm, net, bterm)),
-                Ok((pin, row, track, wire)),
-                Ok((blockage, region, group, prop)),
-            ) => Ok(Block {
-                header,
-                inst,
-                iterm,
-                net,
-                bterm,
-                pin,
-                row,
-                track,
-                wire,
-                blockage,
-                region,
-                group,
-                prop,
-                cap,
-                spare: Vec::new(alloc),
-            }),
-            others => {
-                drop(others);
-                drop(header);
-                Err(AllocError)
-            }
-        }
+        let (inst, iterm, net, bterm) = four_pools(inst, iterm, net, bterm, cap)?;
+        let (pin, row, track, wire) = four_pools(pin, row, track, wire, cap)?;
+        let (blockage, region, group, prop) = four_pools(blockage, region, group, prop, cap)?;
+        Ok(Block {
+            header,
+            inst,
+            iterm,
+            net,
+            bterm,
+            pin,
+            row,
+            track,
+            wire,
+            blockage,
+            region,
+            group,
+            prop,
+            cap,
+            spare: Vec::new(alloc),
+        })
     }
 
     /// The greatest number of slots in a table.
