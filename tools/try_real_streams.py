@@ -67,6 +67,13 @@ CASES = [
         after={".odb-0": b"left", ".odb-1": FOLDER, "f": ONE_NET},
     ),
     Case(
+        "a save that finds each temporary name taken",
+        b"new_net n1\nsave f\n",
+        5,
+        b"ok 1 1 0 0 0\n",
+        before={"f": b"old bytes", **{f".odb-{number}": b"left" for number in range(1000)}},
+    ),
+    Case(
         "a save onto a folder",
         b"new_net n1\nnew_net n2\nsave d\nnew_net n3\n",
         5,
