@@ -3,7 +3,7 @@ use Rattle.std.specs.Prelude.{◌≡◌, ◌≢◌, Bool, false, IsTrue, List, �
 use Rattle.lef_tree.specs.declared.tree.LefItem.{LefItem}
 use Rattle.lef_build.specs.declared.fault.BuildFault.{BuildFault}
 use Rattle.lef_build.specs.declared.fault.BuildFault.TheVariants as fault
-use Rattle.lef_build.specs.Building.{Build, with_item}
+use Rattle.lef_build.specs.Building.{Build, with_item, with_items}
 
 -- the answer is the wanted one, or there is no memory
 abbrev pub IsAnswer : {T : Type 0} → Result T BuildFault → Result T BuildFault → Type 0
@@ -29,3 +29,8 @@ IsPart found value (Err why) = why ≢ fault.Memory → found ≡ Some why
 abbrev pub TakesItem : Build → LefItem → Build → Result (Unit {0}) BuildFault → Type 0
 TakesItem old i new (Ok u) = with_item old i ≡ Ok new
 TakesItem old i new (Err why) = why ≢ fault.Memory → with_item old i ≡ Err why
+
+-- items are taken one after the other, or their first fault is told
+abbrev pub TakesItems : Build → List LefItem → Build → Result (Unit {0}) BuildFault → Type 0
+TakesItems old items new (Ok u) = with_items (Ok old) items ≡ Ok new
+TakesItems old items new (Err why) = why ≢ fault.Memory → with_items (Ok old) items ≡ Err why

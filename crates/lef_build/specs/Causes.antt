@@ -76,10 +76,13 @@ is_good_layer units l = is_distance units l.pitch_x && is_distance units l.pitch
 abbrev pub is_good_site : ℕ → LefSite → Bool
 is_good_site units s = is_size units s.width && is_size units s.height
 
+-- the origin of a macro has numbers, and its size too, and isn't negative
+abbrev pub has_good_sizes : ℕ → LefMacro → Bool
+has_good_sizes units m = is_distance units m.origin_x && is_distance units m.origin_y && is_size units m.width && is_size units m.height
+
 -- each distance and corner that a macro states has a number, and no size is negative
 abbrev pub is_good_macro : ℕ → LefMacro → Bool
-is_good_macro units m = is_distance units m.origin_x && is_distance units m.origin_y && is_size units m.width && is_size units m.height
-    && are_good_pins units m.terminals && are_good_shapes units m.obstructions
+is_good_macro units m = has_good_sizes units m && are_good_pins units m.terminals && are_good_shapes units m.obstructions
 
 -- the first cause why a layer has no part
 unfoldable pub layer_fault : ℕ → LefLayer → Option BuildFault

@@ -1,5 +1,5 @@
 -- The parts that items of a LEF text state.
-use Rattle.std.specs.Prelude.{List, ℕ, Option, Some, None, map, unwrap_or}
+use Rattle.std.specs.Prelude.{List, [], ◌∷◌, ℕ, ℤ, Option, Some, None, map, unwrap_or}
 use Rattle.odb_base.specs.declared.geometry.Shape.{Shape}
 use Rattle.tech.specs.Technology.{Technology, find_layer, find_site}
 use Rattle.tech.specs.declared.layer.Layer.{Layer}
@@ -61,6 +61,10 @@ site_of units s = record {
 -- the terminal that a pin states, with its shapes on layers of the technology
 unfoldable pub terminal_of : Technology → LefPin → MTerm
 terminal_of t p = record { name = p.name; direction = p.direction; usage = p.usage; shapes = shapes_of t p.shapes }
+
+-- the origin and the size of a macro: x and y, width and height
+abbrev pub sizes_of : ℕ → LefMacro → List ℤ
+sizes_of units m = in_units units m.origin_x ∷ in_units units m.origin_y ∷ in_units units m.width ∷ in_units units m.height ∷ []
 
 -- the master that a macro states, in the units of the technology, with its site and layers
 unfoldable pub master_of : Technology → LefMacro → Master

@@ -122,9 +122,15 @@ impl<'a> Builder<'a> {
         ensures { OnOk result (self.new ≡ entered part self.old) }
     {
         // With room for the part, no name is entered in vain.
-        self.parts.reserve(1)?;
-        self.known.enter(name, &part)?;
-        self.parts.push(part)?;
+        if let Err(fault) = self.parts.reserve(1) {
+            drop(part);
+            return Err(fault);
+        }
+        if let Err(fault) = self.known.enter(name, &part) {
+            drop(part);
+            return Err(fault);
+        }
+        self.parts.push_reserved(part);
         Ok(())
     }
 
@@ -132,7 +138,15 @@ impl<'a> Builder<'a> {
     pub fn into_parts(self) -> Parts
         ensures { result ≡ record { parts = self.entry.parts; passed = self.entry.passed } }
     {
-        let Builder { parts, passed, .. } = self;
+        let Builder {
+            alloc: _,
+            tech: _,
+            library: _,
+            known,
+            parts,
+            passed,
+        } = self;
+        drop(known);
         Parts {
             parts: List::from_vec(parts),
             passed,

@@ -1,4 +1,4 @@
-ghost use Rattle.lef_build.specs.Answers.{TakesItem};
+ghost use Rattle.lef_build.specs.Answers.{TakesItem, TakesItems};
 
 use crate::builder::Builder;
 use crate::fault::BuildFault;
@@ -6,8 +6,18 @@ use edit_words::TechPart;
 use lef_tree::{LefItem, LefLayer, LefMacro, LefSite, LefVia};
 
 impl<'a> Builder<'a> {
-    /// With one more item.
-    pub fn take(&mut self, item: &'a LefItem) -> Result<(), BuildFault>
+    /// With items one after the other.
+    pub fn take_all(&mut self, items: &'a [LefItem]) -> Result<(), BuildFault>
+        ensures { TakesItems self.old items.now self.new result }
+    {
+        for item in items {
+            self.take(item)?;
+        }
+        Ok(())
+    }
+
+    // With one more item.
+    fn take(&mut self, item: &'a LefItem) -> Result<(), BuildFault>
         ensures { TakesItem self.old item.now self.new result }
     {
         match item {

@@ -1,7 +1,7 @@
 ghost use Rattle.std.specs.Prelude.{◌≡◌};
 ghost use Rattle.lef_build.specs.Answers.{IsMade, IsPart};
-ghost use Rattle.lef_build.specs.Causes.{are_good_shapes, is_good_layer, is_good_macro, is_good_site, layer_fault, macro_fault, site_fault, via_fault};
-ghost use Rattle.lef_build.specs.Stated.{layer_of, master_of, site_number, site_of, via_of};
+ghost use Rattle.lef_build.specs.Causes.{are_good_shapes, has_good_sizes, is_good_layer, is_good_macro, is_good_site, layer_fault, macro_fault, site_fault, via_fault};
+ghost use Rattle.lef_build.specs.Stated.{layer_of, master_of, site_number, site_of, sizes_of, via_of};
 
 use crate::asked::{has_shapes, layer_states, macro_states, site_states};
 use crate::builder::Builder;
@@ -71,24 +71,23 @@ impl<'a> Builder<'a> {
     fn made_master(&self, stated: &LefMacro) -> Result<Master, BuildFault>
         ensures { IsMade stated.now.name (is_good_macro self.now.tech.units stated.now) (master_of self.now.tech stated.now) result }
     {
-        let units = self.units();
-        let name = &stated.name;
-        let origin_x = distance(units, name, &stated.origin_x)?;
-        let origin_y = distance(units, name, &stated.origin_y)?;
-        let width = size(units, name, &stated.width)?;
-        let height = size(units, name, &stated.height)?;
-        let terminals = self.terminals(name, stated.terminals.items())?;
-        let obstructions = self.shapes(name, stated.obstructions.items())?;
+        let [origin_x, origin_y, width, height] = made_sizes(self.units(), stated)?;
+        let named = &stated.name;
+        let name = named.try_clone()?;
+        let class = stated.class.try_clone()?;
+        let foreign = stated.foreign.try_clone()?;
+        let obstructions = self.shapes(named, stated.obstructions.items())?;
+        let terminals = self.terminals(named, stated.terminals.items())?;
         Ok(Master {
-            name: name.try_clone()?,
-            class: stated.class.try_clone()?,
+            name,
+            class,
             origin_x,
             origin_y,
             width,
             height,
             symmetry: stated.symmetry,
             site: self.site_number(&stated.site),
-            foreign: stated.foreign.try_clone()?,
+            foreign,
             terminals,
             obstructions,
         })
@@ -138,4 +137,17 @@ fn made_site(units: u32, stated: &LefSite) -> Result<Site, BuildFault>
         width,
         height,
     })
+}
+
+// The origin and the size of a macro: x and y, width and height.
+fn made_sizes(units: u32, stated: &LefMacro) -> Result<[i32; 4], BuildFault>
+    ensures { IsMade stated.now.name (has_good_sizes units stated.now) (sizes_of units stated.now) result }
+{
+    let name = &stated.name;
+    Ok([
+        distance(units, name, &stated.origin_x)?,
+        distance(units, name, &stated.origin_y)?,
+        size(units, name, &stated.width)?,
+        size(units, name, &stated.height)?,
+    ])
 }

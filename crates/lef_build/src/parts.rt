@@ -34,9 +34,11 @@ pub fn parts_of(
     ensures { IsAnswer (built_of tech.now library.now tree.now) result }
 {
     let mut builder = Builder::new(alloc, tech, library, tree.passed);
-    let items = tree.items.items();
-    for item in items {
-        builder.take(item)?;
+    match builder.take_all(tree.items.items()) {
+        Ok(()) => Ok(builder.into_parts()),
+        Err(fault) => {
+            drop(builder);
+            Err(fault)
+        }
     }
-    Ok(builder.into_parts())
 }
