@@ -93,7 +93,7 @@ fn untake<L: Ledger>(block: &mut Block, kind: Kind, id: u32, memo: &Memo, moves:
     ensures back { block.new.block ≡ untaken_in kind id (grew_of memo.now) block.old.block }
     ensures cap { block.new.cap ≡ block.old.cap }
 {
-    block.untake(kind, id, grew(memo), moves);
+    drop(block.untake(kind, id, grew(memo), moves));
 }
 
 // Puts an object that went back into its table.
@@ -136,7 +136,7 @@ fn master_back<L: Ledger>(block: &mut Block, inst: u32, memo: Memo, moves: &mut 
 {
     match memo {
         Memo::Swapped { master, terminals } => {
-            exchange(block, inst, master, terminals, moves);
+            drop(exchange(block, inst, master, terminals, moves));
         }
         _ => unreachable!(),
     }
