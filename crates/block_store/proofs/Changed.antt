@@ -1,6 +1,6 @@
 -- A sound block with one table changed, and what that table owes.
-use Rattle.std.proofs.Common.{◌≡◌, List, ℕ, Option, refl, sym}
-use Rattle.std.specs.Option.{option_map, option_map_or}
+use Rattle.std.proofs.Common.{◌≡◌, List, ℕ, refl}
+use Rattle.std.specs.Option.{option_map_or}
 use Rattle.slot_pool.specs.Table.{Table, record_at}
 use Rattle.tech.specs.Technology.{Technology}
 use Rattle.library.specs.declared.master.Master.{Master}

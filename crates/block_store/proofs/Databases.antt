@@ -1,14 +1,12 @@
 -- The empty database is sound, and a sound one stays sound where its library grows.
-use Rattle.std.proofs.Common.{◌≡◌, ◌==◌, ◌≤◌, ◌<◌, ◌-◌, ◌↔◌, ◌++◌, ◌∷◌, true, false, cond, eqb, List, [], ℕ, Option, Some, None, length, get_or, refl, sym, ap, ◌∙◌, arith, inl, inr, slice_get}
+use Rattle.std.proofs.Common.{◌≡◌, ◌≤◌, ◌<◌, ◌-◌, ◌++◌, ◌∷◌, false, eqb, List, [], ℕ, Option, Some, None, length, refl, ap, ◌∙◌, arith, slice_get}
 use Rattle.std.specs.Option.{option_map, option_map_or}
-use Rattle.std.proofs.lemmas.Bool.{cases_Bool}
 use Rattle.std.proofs.lemmas.Bool.Decides.{nat_tests}
-use Rattle.std.proofs.lemmas.List.{length_push}
-use Rattle.slot_pool.specs.Table.{IsGood, Table, once_if, record_at, times}
+use Rattle.slot_pool.specs.Table.{record_at}
 use Rattle.block_records.specs.Header.{new_header}
 use Rattle.library.specs.Masters.{find_master, master_at}
 use Rattle.library.specs.declared.master.Master.{Master}
-use Rattle.named_list.proofs.Ids.{Placed, growing_keeps_ids, placed}
+use Rattle.named_list.proofs.Ids.{growing_keeps_ids, placed}
 use Rattle.tech.specs.Technology.{Technology, find_layer, find_site, find_via, with_layer, with_site, with_units, with_via}
 use Rattle.tech.specs.declared.layer.Layer.{Layer}
 use Rattle.tech.specs.declared.site.Site.{Site}
@@ -20,7 +18,7 @@ use Rattle.block_store.specs.Block.{Block, empty_block, empty_table}
 use Rattle.block_store.specs.Database.{Database, IsSoundDatabase, empty_database, with_master, with_tech}
 use Rattle.block_store.specs.Lists.{list_in}
 use Rattle.block_store.specs.Names.{name_by}
-use Rattle.block_store.specs.Sound.{AreEach, AreHeld, AreNamed, ArePlaced, HasLawfulMasters, HasNoOthers, IsInst, IsSound, IsTable, term_count}
+use Rattle.block_store.specs.Sound.{AreEach, AreHeld, AreNamed, ArePlaced, HasLawfulMasters, IsInst, IsSound, IsTable, term_count}
 
 module _ {A : Type 0} where
   -- an empty table has no record

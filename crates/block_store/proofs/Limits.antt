@@ -1,6 +1,5 @@
 -- How great the identifiers of objects are.
 use Rattle.std.proofs.Common.{◌≤◌, ℕ, IsTrue}
-use Rattle.slot_pool.specs.Table.{Table, is_live}
 use Rattle.slot_pool.proofs.Counts.{live_within}
 use Rattle.odb_base.specs.declared.codes.kind.Kind.{Kind}
 use Rattle.odb_base.specs.declared.codes.kind.Kind.TheVariants as kind

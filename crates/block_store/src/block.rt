@@ -1,4 +1,4 @@
-ghost use Rattle.std.specs.Prelude.{◌≡◌, ◌≤◌, ◌<◌, ◌+◌, [], IfErr, IfOk, IsSome, IsTrue, OnErr, OnOk, length, option_copied, Err, ◌↔◌};
+ghost use Rattle.std.specs.Prelude.{◌≡◌, ◌≤◌, ◌<◌, ◌+◌, [], IfErr, IfOk, IsSome, IsTrue, OnErr, OnOk, length, option_copied, Err, Ok, ◌↔◌};
 ghost use Rattle.odb_base.specs.declared.codes.kind.Kind.{Kind as AnyKind};
 ghost use Rattle.block_records.specs.Header.{new_header};
 ghost use Rattle.block_store.specs.Block.{empty_block, free_in, left_in, live_in, slots_in};
@@ -132,26 +132,38 @@ impl Block {
             group,
             prop,
         } = tables;
-        let (inst, iterm, net, bterm) = four_pools(inst, iterm, net, bterm, cap)?;
-        let (pin, row, track, wire) = four_pools(pin, row, track, wire, cap)?;
-        let (blockage, region, group, prop) = four_pools(blockage, region, group, prop, cap)?;
-        Ok(Block {
-            header,
-            inst,
-            iterm,
-            net,
-            bterm,
-            pin,
-            row,
-            track,
-            wire,
-            blockage,
-            region,
-            group,
-            prop,
-            cap,
-            spare: Vec::new(alloc),
-        })
+        let first = four_pools(inst, iterm, net, bterm, cap);
+        let second = four_pools(pin, row, track, wire, cap);
+        let third = four_pools(blockage, region, group, prop, cap);
+        match all(first, second, third) {
+            Ok(pools) => {
+                let (first, second, third) = pools;
+                let (inst, iterm, net, bterm) = first;
+                let (pin, row, track, wire) = second;
+                let (blockage, region, group, prop) = third;
+                Ok(Block {
+                    header,
+                    inst,
+                    iterm,
+                    net,
+                    bterm,
+                    pin,
+                    row,
+                    track,
+                    wire,
+                    blockage,
+                    region,
+                    group,
+                    prop,
+                    cap,
+                    spare: Vec::new(alloc),
+                })
+            }
+            Err(fault) => {
+                drop(header);
+                Err(fault)
+            }
+        }
     }
 
     /// The greatest number of slots in a table.
@@ -266,4 +278,15 @@ fn four_pools<A: Drop, B: Drop, C: Drop, D: Drop>(
         c.into_pool(cap)?,
         d.into_pool(cap)?,
     ))
+}
+
+// All three, where there was memory for each.
+fn all<A: Drop, B: Drop, C: Drop>(
+    a: Result<A, AllocError>,
+    b: Result<B, AllocError>,
+    c: Result<C, AllocError>,
+) -> Result<(A, B, C), AllocError>
+    ensures { IfOk result (λ all. (a ≡ Ok all.0) × (b ≡ Ok all.1) × (c ≡ Ok all.2)) }
+{
+    Ok((a?, b?, c?))
 }

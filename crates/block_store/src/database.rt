@@ -39,10 +39,11 @@ impl Database {
         requires { cap ≤ 16777215 }
         ensures { IfOk result (λ d. d ≡ empty_database cap) }
     {
+        let block = Block::new(alloc, cap)?;
         Ok(Database {
             tech: Tech::new(alloc),
             library: Library::new(alloc),
-            block: Block::new(alloc, cap)?,
+            block,
         })
     }
 

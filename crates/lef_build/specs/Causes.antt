@@ -76,7 +76,7 @@ is_good_layer units l = is_distance units l.pitch_x && is_distance units l.pitch
 abbrev pub is_good_site : ℕ → LefSite → Bool
 is_good_site units s = is_size units s.width && is_size units s.height
 
--- the origin of a macro has numbers, and its size too, and isn't negative
+-- the origin of a macro and its size have numbers, and the size isn't negative
 abbrev pub has_good_sizes : ℕ → LefMacro → Bool
 has_good_sizes units m = is_distance units m.origin_x && is_distance units m.origin_y && is_size units m.width && is_size units m.height
 

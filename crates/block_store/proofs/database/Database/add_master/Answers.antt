@@ -1,5 +1,4 @@
-use Rattle.std.proofs.Common.{◌≡◌, ◌<◌, None, length, ap, sym, ◌∙◌, subst}
-use Rattle.library.specs.Masters.{find_master}
+use Rattle.std.proofs.Common.{ap}
 use Rattle.block_store.proofs.Databases.{sound_with_master}
 use Rattle.block_store.proofs.database.Database.add_master.Goals as goal
 

@@ -1,5 +1,4 @@
-use Rattle.std.proofs.Common.{◌≡◌, ◌<◌, None, length, ap, sym, ◌∙◌, subst}
-use Rattle.tech.specs.Technology.{find_via}
+use Rattle.std.proofs.Common.{ap}
 use Rattle.block_store.proofs.Databases.{sound_with_via}
 use Rattle.block_store.proofs.database.Database.add_via.Goals as goal
 

@@ -3,4 +3,4 @@ use Rattle.block_store.proofs.database.Database.new.Goals as goal
 
 pub invariant_of-result : goal.invariant_of-result
 invariant_of-result c =
-    rw (c.new.ensures, c.new-2.ensures, c.in_ok-new.ensures.block, c.in_ok-new.ensures.cap) (sound_database c.args.cap c.requires)
+    rw (c.new-2.ensures, c.new-3.ensures, c.in_ok-block.ensures.block, c.in_ok-block.ensures.cap) (sound_database c.args.cap c.requires)
