@@ -1,4 +1,4 @@
-use super::*;
+use odb_fields::{Cut, Get, Put};
 use std::alloc::AllocError;
 use std::process::Abort;
 use std::test::Fail;

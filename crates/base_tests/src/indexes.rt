@@ -2,7 +2,7 @@ ghost use Rattle.std.specs.Prelude.{◌≡◌, ◌≤◌, OnOk, refl};
 ghost use Rattle.name_index.specs.Index.{spare};
 ghost use Rattle.name_index.specs.VecCells.{cell as cell_in, chain_of as chain_in, name_of as name_in, with_chain as with_chain_in};
 
-use super::*;
+use name_index::{ChainCells, NameIndex};
 use odb_base::{Steps, Text};
 use std::alloc::{AllocError, Global};
 use std::marker::{Brand, Model};
@@ -270,9 +270,4 @@ fn a_thousand_names(rt: HostRuntime) -> Result<(), Fail> {
     assert_eq!(rt; first_wrong(alloc, &table, 1000, true)?, None);
     assert_eq!(rt; table.find(b"net1001"), None);
     Ok(())
-}
-
-#[test]
-fn laws() {
-    read_off::<Cells>();
 }

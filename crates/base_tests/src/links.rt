@@ -2,7 +2,7 @@ ghost use Rattle.std.specs.Prelude.{◌≡◌, IfOk, IfSome, length, refl};
 ghost use Rattle.odb_base.specs.Ids.{holds};
 ghost use Rattle.link_list.specs.VecLinks.{is_place, cell as cell_in, link_of as link_in, with_link as with_link_in};
 
-use super::*;
+use link_list::{Head, Link, LinkCells, insert_before, push_front, unlink};
 use odb_base::Steps;
 use std::alloc::{AllocError, Global};
 use std::marker::{Brand, Model};
@@ -238,10 +238,4 @@ fn edits_of_one_list(rt: HostRuntime) -> Result<(), Fail> {
         edits.len()
     );
     Ok(())
-}
-
-#[test]
-fn laws() {
-    put_back();
-    read_off::<Links>();
 }

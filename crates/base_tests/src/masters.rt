@@ -1,4 +1,4 @@
-use super::*;
+use library::{Library, MASTER_LIMIT, MTerm, Master, Shape};
 use odb_base::{Direction, LayerId, List, MasterId, Name, Rect, Text, Usage};
 use std::alloc::Global;
 use std::test::Fail;

@@ -1,4 +1,4 @@
-use super::*;
+use named_list::{Named, NamedList};
 use odb_base::Name;
 use std::alloc::Global;
 use std::test::Fail;

@@ -1,4 +1,7 @@
-use super::*;
+use odb_base::{
+    Coded, Direction, EcoState, Kind, List, Name, NameFault, NetId, Orient, Owner, Placement,
+    Point, RowForm, Text, Usage, WireCode, Worded, name_fault, oriented_size,
+};
 use std::test::Fail;
 
 #[test]

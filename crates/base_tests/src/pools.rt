@@ -1,7 +1,7 @@
 ghost use Rattle.std.specs.Prelude.{◌≡◌};
 
-use super::*;
 use odb_base::Steps;
+use slot_pool::{PoolFault, SlotPool, Taken};
 use std::alloc::Global;
 use std::marker::Brand;
 use std::process::Abort;

@@ -1,4 +1,4 @@
-use super::*;
+use block_records::{Header, ITermRec, Record};
 use odb_base::Kind;
 use std::test::Fail;
 

@@ -1,5 +1,5 @@
-use super::*;
 use block_records::Terminals;
+use edit_words::{Step, Tag};
 use odb_base::{Kind, Name, Placement};
 use std::test::Fail;
 

@@ -1,7 +1,10 @@
 ghost use Rattle.std.specs.Prelude.{◌≡◌};
 ghost use Rattle.odb_outside.specs.declared.shelf.Hand.{Hand as AnyHand};
 
-use super::*;
+use odb_outside::{
+    Failed, Hand, MemoryShelf, MemorySink, MemorySource, OpenFault, Shelf, ShelfSink, ShelfSource,
+    Sink, Source, WriteFault, write_all,
+};
 use std::process::Abort;
 use std::test::Fail;
 

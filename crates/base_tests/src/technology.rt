@@ -1,9 +1,9 @@
-use super::*;
 use bitflags::Flags;
 use odb_base::{LayerDirection, LayerId, LayerType, List, Name, SiteClass, SiteId, ViaId};
 use std::alloc::Global;
 use std::process::Abort;
 use std::test::Fail;
+use tech::{LIST_LIMIT, Layer, Site, Symmetry, Tech, TechVia};
 
 #[test]
 fn a_technology_is_stated_and_cut(rt: HostRuntime) -> Result<(), Fail> {

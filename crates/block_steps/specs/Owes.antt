@@ -49,6 +49,7 @@ pub record IsRejoined (k : Kind) (id net : ℕ) (m : Memo) (c : Block) : Type 0 
   pub can : IsJoinable k id net c
   pub next : IfSome (next_moved m) (λ other. IsTrue (holds (net_terms c net) other))
 
+-- what the way back of a step, with its tag and what it moved out, asks of the block that the step led to
 abbrev pub Owes : Tag → Memo → Block → Type 0
 Owes (tag.NewInst id master) m c = CanUnmake id (grew_of m) (grown_of m) c
 Owes (tag.NewNet id) m c = IsTakenBack kind.Net id m c

@@ -25,6 +25,7 @@ pub record IsHeaderFault (library : List Master) (b : Block) (id : ℕ) : Type 0
   pub zero : id ≡ 0
   pub header : ¬ (IsSoundHeader library b)
 
+-- the place is the least that isn't sound: the header, or an identifier of a kind
 abbrev pub IsLeastFault : List Master → ℕ → Block → Option Kind → ℕ → Type 0
 IsLeastFault library cap b None id = IsHeaderFault library b id
 IsLeastFault library cap b (Some k) id = IsLeastInKind library cap b k id

@@ -2,6 +2,7 @@
 use Rattle.block_tables.specs.declared.judge.Judge.{Judge}
 use Rattle.block_tables.specs.Indexes.{CountsHolders, CountsStanding}
 
+-- the counts are right: how many objects have each name, and how often each terminal stands in its net's list
 pub record IsPrepared (j : Judge) : Type 0 where
   pub insts : CountsHolders (λ e. e.fields.name) j.tables.now.inst.slots j.insts.counts
   pub nets : CountsHolders (λ e. e.fields.name) j.tables.now.net.slots j.nets.counts

@@ -7,6 +7,7 @@ use Rattle.block_store.specs.Lists.{bterm_number}
 use Rattle.block_store.specs.Sound.{IsBTerm, net_terms}
 use Rattle.block_tables.specs.Names.{IsAlone}
 
+-- the block terminal of an identifier is sound
 pub record IsSoundBTerm (b : Block) (id : ℕ) (e : BTermEntry) : Type 0 where
   -- its values are lawful
   pub values : IsBTerm e

@@ -10,6 +10,7 @@ use Rattle.block_tables.specs.Names.{IsAlone}
 abbrev pub AreInPlace : Block → ℕ → List ℕ → Type 0
 AreInPlace b id terminals = (place part : ℕ) → slice_get terminals place ≡ Some part → iterm_place b part ≡ Some (id, place)
 
+-- the instance of an identifier is sound
 pub record IsSoundInst (library : List Master) (b : Block) (id : ℕ) (e : InstEntry) : Type 0 where
   -- its values are lawful, and it has a terminal for each of its master's
   pub values : IsInst library e

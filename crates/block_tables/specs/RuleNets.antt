@@ -15,6 +15,7 @@ term_net b number = if number % 2 == 0 then iterm_net b (number / 2) else bterm_
 abbrev pub AreTerminals : Block → ℕ → List ℕ → Type 0
 AreTerminals b id numbers = (number : ℕ) → 1 ≤ times number numbers → (times number numbers ≡ 1) × (term_net b number ≡ id)
 
+-- the net of an identifier is sound
 pub record IsSoundNet (b : Block) (id : ℕ) (e : NetEntry) : Type 0 where
   -- its values are lawful
   pub values : IsNet e

@@ -6,6 +6,7 @@ use Rattle.block_store.specs.Block.{Block}
 use Rattle.block_store.specs.Lists.{iterm_number}
 use Rattle.block_store.specs.Sound.{inst_terms, net_terms}
 
+-- the instance terminal of an identifier is sound
 pub record IsSoundITerm (b : Block) (id : ℕ) (r : ITermRec) : Type 0 where
   -- it stands at its index among the terminals of the instance that it names
   pub place : slice_get (inst_terms b r.inst) r.index ≡ Some id

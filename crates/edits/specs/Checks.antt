@@ -31,6 +31,7 @@ live b k id = holds_or (live_in k id b) (refusal.NotLive k id)
 abbrev pub allowed : Bool → ℕ → Result (Unit {0}) Refusal
 allowed b place = holds_or b (refusal.BadValue place)
 
+-- the word at this place has no fault as a name, or it is refused as a bad name
 abbrev pub no_fault : Option NameFault → ℕ → Result (Unit {0}) Refusal
 no_fault None place = Ok tt
 no_fault (Some fault) place = Err (refusal.BadName place)
@@ -39,6 +40,7 @@ no_fault (Some fault) place = Err (refusal.BadName place)
 abbrev pub lawful : List ℕ → ℕ → Result (Unit {0}) Refusal
 lawful name place = no_fault (name_fault name) place
 
+-- nobody holds a name, or the edit is refused with who holds it
 abbrev pub nobody : Option ℕ → Result (Unit {0}) Refusal
 nobody None = Ok tt
 nobody (Some holder) = Err (refusal.NameTaken holder)
@@ -47,6 +49,7 @@ nobody (Some holder) = Err (refusal.NameTaken holder)
 abbrev pub unheld : Block → Kind → List ℕ → Result (Unit {0}) Refusal
 unheld b k name = nobody (find_in k name b)
 
+-- the tables allow the new objects, or the edit is refused with the kind whose table doesn't
 abbrev pub nothing_lacks : Option Kind → Result (Unit {0}) Refusal
 nothing_lacks None = Ok tt
 nothing_lacks (Some k) = Err (refusal.TableFull k)

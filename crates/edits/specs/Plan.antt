@@ -31,9 +31,11 @@ use Rattle.steps_net.specs.Do.{do_step}
 use Rattle.steps_net.specs.Room.{lacks}
 use Rattle.edits.specs.Checks.{◌>>=◌, allowed, holds_or, lawful, live, nothing_lacks, some_or, unheld}
 
+-- what planning an edit comes to: its steps, or its refusal
 abbrev pub Planned : Type 0
 Planned = Result (List Step) Refusal
 
+-- the plan of one step
 abbrev pub one : Step → Planned
 one s = Ok (s ∷ [])
 
@@ -53,6 +55,7 @@ abbrev pub new_inst_of : List Master → Block → List ℕ → ℕ → Step
 new_inst_of library b name master =
     step.NewInst (next_in kind.Inst b) name master (next_ids 0 (unwrap_or (term_count library master) 0) b.iterm)
 
+-- a new instance; refused for a bad name, an unknown master, a name that is taken, or a full table
 abbrev pub plan_new_inst : List Master → ℕ → Block → List ℕ → List ℕ → Planned
 plan_new_inst library cap b name master = do
   good ← lawful name 1
@@ -60,6 +63,7 @@ plan_new_inst library cap b name master = do
   new ← unheld b kind.Inst name
   new_one cap b (new_inst_of library b name id)
 
+-- a new net; refused for a bad name, a name that is taken, or a full table
 abbrev pub plan_new_net : ℕ → Block → List ℕ → Planned
 plan_new_net cap b name = do
   good ← lawful name 1
@@ -71,10 +75,12 @@ abbrev pub given_net : Block → Option ℕ → Result (Unit {0}) Refusal
 given_net b None = Ok tt
 given_net b (Some net) = live b kind.Net net
 
+-- a new block terminal is joined to the net, if one is given
 abbrev pub joined_to : ℕ → Option ℕ → List Step
 joined_to id None = []
 joined_to id (Some net) = step.Join kind.BTerm id net ∷ []
 
+-- a new block terminal; refused where the net isn't there, for a bad or taken name, or a full table
 abbrev pub plan_new_bterm : ℕ → Block → List ℕ → Option ℕ → Planned
 plan_new_bterm cap b name net = do
   there ← given_net b net
@@ -113,6 +119,7 @@ plan_destroy b kind.Net id = Ok (parted_members id (net_terms b id) ++ step.Del 
 plan_destroy b kind.BTerm id = Ok (parted b kind.BTerm id ++ step.Del kind.BTerm id ∷ [])
 plan_destroy b other id = one (step.Del other id)
 
+-- objects of the kind have names
 abbrev pub has_names : Kind → Bool
 has_names kind.Inst = true
 has_names kind.Net = true
@@ -122,21 +129,25 @@ has_names kind.Region = true
 has_names kind.Group = true
 has_names other = false
 
+-- objects of the kind have a place
 abbrev pub has_place : Kind → Bool
 has_place kind.Inst = true
 has_place kind.Pin = true
 has_place other = false
 
+-- objects of the kind have a use
 abbrev pub has_usage : Kind → Bool
 has_usage kind.Net = true
 has_usage kind.BTerm = true
 has_usage other = false
 
+-- objects of the kind are terminals, of instances or of the block
 abbrev pub is_terminal : Kind → Bool
 is_terminal kind.ITerm = true
 is_terminal kind.BTerm = true
 is_terminal other = false
 
+-- another name; refused where the object isn't there, its kind has no names, or the name is bad or taken
 abbrev pub plan_rename : Block → Kind → ℕ → List ℕ → Planned
 plan_rename b k id name = do
   there ← live b k id
@@ -153,15 +164,18 @@ first_lacking master terminals = option_map (λ t. t.name) (find (λ t. is_none 
 abbrev pub first_differing : Master → Master → Option (List ℕ)
 first_differing old new = option_or (first_lacking new old.terminals) (first_lacking old new.terminals)
 
+-- the name of the first terminal in which two masters differ, where both are there
 abbrev pub differing : Option Master → Option Master → Option (List ℕ)
 differing (Some old) (Some new) = first_differing old new
 differing None new = None
 differing (Some old) None = None
 
+-- no terminal differs, or the edit is refused with the name of the first that does
 abbrev pub same_terms : Option (List ℕ) → Result (Unit {0}) Refusal
 same_terms None = Ok tt
 same_terms (Some name) = Err (refusal.TermsDiffer name)
 
+-- another master; refused where the instance isn't there, the master is unknown, or their terminals differ
 abbrev pub plan_swap : List Master → Block → ℕ → List ℕ → Planned
 plan_swap library b inst master = do
   there ← live b kind.Inst inst
@@ -178,10 +192,12 @@ is_coordinate (negsuc n) = nat_lt n 2000000000
 abbrev pub coordinate : ℤ → ℕ → Result ℤ Refusal
 coordinate n place = if is_coordinate n then Ok n else Err (refusal.BadValue place)
 
+-- the number is 0
 abbrev pub is_zero : ℤ → Bool
 is_zero (pos n) = n == 0
 is_zero (negsuc n) = false
 
+-- the orientation is N
 abbrev pub is_north : Orient → Bool
 is_north orient.N = true
 is_north other = false
@@ -191,6 +207,8 @@ abbrev pub fits_status : PlaceStatus → ℤ → ℤ → Orient → Bool
 fits_status status.Unplaced x y orientation = is_zero x && is_zero y && is_north orientation
 fits_status other x y orientation = true
 
+-- another place; refused where the object isn't there, its kind has none,
+-- or the status doesn't fit the place or a coordinate is beyond the limit
 abbrev pub plan_place : Block → Kind → ℕ → PlaceStatus → ℤ → ℤ → Orient → Planned
 plan_place b k id status x y orientation = do
   there ← live b k id
@@ -200,32 +218,39 @@ plan_place b k id status x y orientation = do
   along_y ← coordinate y 5
   one (step.Place k id (record { status = status; x = along_x; y = along_y; orientation = orientation }))
 
+-- another use; refused where the object isn't there or its kind has none
 abbrev pub plan_set_use : Block → Kind → ℕ → Usage → Planned
 plan_set_use b k id usage = do
   there ← live b k id
   used ← allowed (has_usage k) 1
   one (step.SetUse k id usage)
 
+-- a block terminal may have the direction
 abbrev pub is_bterm_direction : Direction → Bool
 is_bterm_direction direction.Tristate = false
 is_bterm_direction other = true
 
+-- another direction; refused where the block terminal isn't there or may not have it
 abbrev pub plan_set_dir : Block → ℕ → Direction → Planned
 plan_set_dir b bterm way = do
   there ← live b kind.BTerm bterm
   fits ← allowed (is_bterm_direction way) 2
   one (step.SetDir bterm way)
 
+-- a net becomes special; refused where it isn't there or is special already
 abbrev pub plan_make_special : Block → ℕ → Planned
 plan_make_special b net = do
   there ← live b kind.Net net
   plain ← holds_or (not (unwrap_or (special_in net b) false)) refusal.Special
   one (step.MakeSpecial net)
 
+-- a terminal is joined to no net, or the edit is refused with the net
 abbrev pub unjoined : Option ℕ → Result (Unit {0}) Refusal
 unjoined None = Ok tt
 unjoined (Some net) = holds_or (net == 0) (refusal.Joined net)
 
+-- a terminal is joined to a net; refused where either isn't there,
+-- or where the object is no terminal or is joined already
 abbrev pub plan_join : Block → Kind → ℕ → ℕ → Planned
 plan_join b k id net = do
   there ← live b k id
@@ -239,6 +264,7 @@ abbrev pub joined : Option ℕ → Result ℕ Refusal
 joined None = Err refusal.NotJoined
 joined (Some net) = if net == 0 then Err refusal.NotJoined else Ok net
 
+-- a terminal is parted from its net; refused where it isn't there, is no terminal, or isn't joined
 abbrev pub plan_part : Block → Kind → ℕ → Planned
 plan_part b k id = do
   there ← live b k id
@@ -246,6 +272,7 @@ plan_part b k id = do
   net ← joined (net_in k id b)
   one (step.Part k id net)
 
+-- an object is destroyed; refused where it isn't there, or is a terminal of an instance
 abbrev pub plan_destroyed : Block → Kind → ℕ → Planned
 plan_destroyed b k id = do
   there ← live b k id

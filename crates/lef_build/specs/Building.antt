@@ -14,7 +14,7 @@ use Rattle.lef_build.specs.declared.parts.Parts.{Parts}
 use Rattle.lef_build.specs.Causes.{layer_fault, macro_fault, site_fault, via_fault}
 use Rattle.lef_build.specs.Stated.{layer_of, master_of, site_of, via_of}
 
--- the technology, and the library, once a part is entered
+-- the technology once a part is entered; a master changes the library only
 abbrev pub with_part : Technology → TechPart → Technology
 with_part t (part.Units n) = with_units n t
 with_part t (part.Layer layer) = with_layer layer t
@@ -22,6 +22,7 @@ with_part t (part.Via via) = with_via via t
 with_part t (part.Site site) = with_site site t
 with_part t (part.Master master) = t
 
+-- the library once a part is entered; only a master changes it
 abbrev pub with_master : List Master → TechPart → List Master
 with_master library (part.Units n) = library
 with_master library (part.Layer layer) = library
@@ -29,10 +30,11 @@ with_master library (part.Via via) = library
 with_master library (part.Site site) = library
 with_master library (part.Master master) = library ++ master ∷ []
 
--- the same, once parts are entered one after the other
+-- the technology once parts are entered one after the other
 abbrev pub with_parts : Technology → List TechPart → Technology
 with_parts t parts = fold with_part t parts
 
+-- the library once parts are entered one after the other
 abbrev pub with_masters : List Master → List TechPart → List Master
 with_masters library parts = fold with_master library parts
 
@@ -53,7 +55,7 @@ build_of t library parts passed = record {
   passed = passed;
 }
 
--- with one more part
+-- what items come to, with one more part
 abbrev pub entered : TechPart → Build → Build
 entered p b = record {
   tech = with_part b.tech p;
@@ -62,22 +64,22 @@ entered p b = record {
   passed = b.passed;
 }
 
--- with one more that is left out, which stops at 2^64 - 1
+-- what items come to, with one more that is left out; the count stops at 2^64 - 1
 abbrev pub left_out : Build → Build
 left_out b = record b { passed = min (b.passed + 1) (2 ^ 64 - 1) }
 
--- with this part, where there is no cause against it
+-- what items come to with this part, where there is no cause against it
 abbrev pub tried : Option BuildFault → TechPart → Build → Result Build BuildFault
 tried (Some why) p b = Err why
 tried None p b = Ok (entered p b)
 
--- with these units, where they are the ones that stand or none stand
+-- what items come to with these units, where they are the ones that stand or none stand
 abbrev pub with_stated : ℕ → Build → Result Build BuildFault
 with_stated n b =
     if b.tech.units == 0 || b.tech.units == n then Ok (entered (part.Units n) b)
     else Err (fault.UnitsChanged b.tech.units n)
 
--- with one more item, or the first cause why it has no part
+-- what items come to with one more, or the first cause why it has no part
 unfoldable pub with_item : Build → LefItem → Result Build BuildFault
 with_item b (item.Units n) = with_stated n b
 with_item b (item.Layer l) =
@@ -93,7 +95,7 @@ with_item b (item.Macro m) =
     if is_some (find_master b.library m.name) then Ok (left_out b)
     else tried (macro_fault b.tech m) (part.Master (master_of b.tech m)) b
 
--- with the items of a list one after the other, or the first fault
+-- what items come to with those of a list one after the other, or the first fault
 abbrev pub with_items : Result Build BuildFault → List LefItem → Result Build BuildFault
 with_items (Err why) is = Err why
 with_items (Ok b) [] = Ok b
@@ -103,6 +105,7 @@ with_items (Ok b) (i ∷ is) = with_items (with_item b i) is
 abbrev pub start : Technology → List Master → ℕ → Build
 start t library passed = build_of t library [] passed
 
+-- the parts that items come to and how many were passed over or left out, or the fault
 abbrev pub parts_in : Result Build BuildFault → Result Parts BuildFault
 parts_in (Err why) = Err why
 parts_in (Ok b) = Ok (record { parts = b.parts; passed = b.passed })

@@ -39,6 +39,7 @@ first_fault fault_of (x ∷ xs) = option_or (fault_of x) (first_fault fault_of x
 abbrev pub unknown_layers : Technology → List LefShape → Option BuildFault
 unknown_layers t shapes = first_fault (unknown_layer t) shapes
 
+-- the layer of one of the shapes of pins isn't there
 abbrev pub unknown_pin_layers : Technology → List LefPin → Option BuildFault
 unknown_pin_layers t pins = first_fault (λ pin. unknown_layers t pin.shapes) pins
 
@@ -50,42 +51,50 @@ has_shapes shapes = not (length shapes == 0)
 abbrev pub are_good_shapes : ℕ → List LefShape → Bool
 are_good_shapes units shapes = list_all (λ s. has_corners units s.rect) shapes
 
+-- all corners of the shapes of pins have numbers
 abbrev pub are_good_pins : ℕ → List LefPin → Bool
 are_good_pins units pins = list_all (λ pin. are_good_shapes units pin.shapes) pins
 
--- a distance is stated
+-- a layer states a distance
 abbrev pub layer_states : LefLayer → Bool
 layer_states l = is_some l.pitch_x || is_some l.pitch_y || is_some l.width || is_some l.spacing
 
+-- a site states its size
 abbrev pub site_states : LefSite → Bool
 site_states s = is_some s.width || is_some s.height
 
+-- a macro states its origin, its size or a shape
 abbrev pub macro_states : LefMacro → Bool
 macro_states m = is_some m.origin_x || is_some m.origin_y || is_some m.width || is_some m.height
     || list_any (λ pin. has_shapes pin.shapes) m.terminals || has_shapes m.obstructions
 
--- each distance has a number, and no size is negative
+-- each distance that a layer states has a number
 abbrev pub is_good_layer : ℕ → LefLayer → Bool
 is_good_layer units l = is_distance units l.pitch_x && is_distance units l.pitch_y && is_distance units l.width && is_distance units l.spacing
 
+-- the size that a site states has numbers and isn't negative
 abbrev pub is_good_site : ℕ → LefSite → Bool
 is_good_site units s = is_size units s.width && is_size units s.height
 
+-- each distance and corner that a macro states has a number, and no size is negative
 abbrev pub is_good_macro : ℕ → LefMacro → Bool
 is_good_macro units m = is_distance units m.origin_x && is_distance units m.origin_y && is_size units m.width && is_size units m.height
     && are_good_pins units m.terminals && are_good_shapes units m.obstructions
 
--- the first cause why an item has no part
+-- the first cause why a layer has no part
 unfoldable pub layer_fault : ℕ → LefLayer → Option BuildFault
 layer_fault units l = option_or (no_units (layer_states l) units) (bad_value l.name (is_good_layer units l))
 
+-- the first cause why a via has no part
 unfoldable pub via_fault : Technology → LefVia → Option BuildFault
 via_fault t v = option_or (no_units (has_shapes v.shapes) t.units)
     (option_or (unknown_layers t v.shapes) (bad_value v.name (are_good_shapes t.units v.shapes)))
 
+-- the first cause why a site has no part
 unfoldable pub site_fault : ℕ → LefSite → Option BuildFault
 site_fault units s = option_or (no_units (site_states s) units) (bad_value s.name (is_good_site units s))
 
+-- the first cause why a macro has no part
 unfoldable pub macro_fault : Technology → LefMacro → Option BuildFault
 macro_fault t m = option_or (no_units (macro_states m) t.units)
     (option_or (unknown_pin_layers t m.terminals)

@@ -15,7 +15,7 @@ distance_of units (Some word) = result_ok (units_of units word)
 unfoldable pub is_distance : ℕ → Option (List ℕ) → Bool
 is_distance units stated = is_some (distance_of units stated)
 
--- this number
+-- the number that a distance has, 0 where it has none
 unfoldable pub in_units : ℕ → Option (List ℕ) → ℤ
 in_units units stated = unwrap_or (distance_of units stated) (pos 0)
 

@@ -26,7 +26,7 @@ pub record IsKnownOf (stood : Technology) (library : List Master) (k : Known) (t
 abbrev pub IsKnown : Technology → List Master → List TechPart → Known → Type 0
 IsKnown t library parts k = IsKnownOf t library k (with_parts t parts) (with_masters library parts)
 
--- with what a part of the name brings
+-- what is known, with what a part of the name brings
 abbrev pub known_with : TechPart → List ℕ → Known → Known
 known_with (part.Units n) name k = record k { units = n }
 known_with (part.Layer layer) name k = record k { layers = k.layers ++ name ∷ [] }

@@ -18,16 +18,19 @@ use Rattle.lef_build.specs.Stated.{master_of, via_of}
 abbrev pub NoItemsHaveNoParts : Technology → List Master → Type 0
 NoItemsHaveNoParts t library = (passed : ℕ) → built_of t library (record { items = []; passed = passed }) ≡ Ok (record { parts = []; passed = passed })
 
--- a second layer, via, site, macro of a name changes nothing but the count
+-- a second layer of a name changes nothing but the count
 abbrev pub SecondLayersAreLeftOut : Build → Type 0
 SecondLayersAreLeftOut b = (c : Build) (l m : LefLayer) → with_item b (item.Layer l) ≡ Ok c → m.name ≡ l.name → with_item c (item.Layer m) ≡ Ok (left_out c)
 
+-- a second via of a name changes nothing but the count
 abbrev pub SecondViasAreLeftOut : Build → Type 0
 SecondViasAreLeftOut b = (c : Build) (v w : LefVia) → with_item b (item.Via v) ≡ Ok c → w.name ≡ v.name → with_item c (item.Via w) ≡ Ok (left_out c)
 
+-- a second site of a name changes nothing but the count
 abbrev pub SecondSitesAreLeftOut : Build → Type 0
 SecondSitesAreLeftOut b = (c : Build) (r s : LefSite) → with_item b (item.Site r) ≡ Ok c → s.name ≡ r.name → with_item c (item.Site s) ≡ Ok (left_out c)
 
+-- a second macro of a name changes nothing but the count
 abbrev pub SecondMacrosAreLeftOut : Build → Type 0
 SecondMacrosAreLeftOut b = (c : Build) (m n : LefMacro) → with_item b (item.Macro m) ≡ Ok c → n.name ≡ m.name → with_item c (item.Macro n) ≡ Ok (left_out c)
 
@@ -36,6 +39,7 @@ pub record IsEntered (t : Technology) (library : List Master) (b : Build) : Type
   pub tech : b.tech ≡ with_parts t b.parts
   pub masters : b.library ≡ with_masters library b.parts
 
+-- items without a fault lead to the technology and the library with their parts entered
 abbrev pub ItemsAreEntered : Technology → List Master → Type 0
 ItemsAreEntered t library = (passed : ℕ) (items : List LefItem) (b : Build) → with_items (Ok (start t library passed)) items ≡ Ok b → IsEntered t library b
 

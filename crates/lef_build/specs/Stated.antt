@@ -40,12 +40,15 @@ layer_of units l = record {
 unfoldable pub shape_of : Technology → LefShape → Shape
 shape_of t s = record { layer = record { 0 = layer_number t s.layer }; rect = rect_of t.units s.rect }
 
+-- shapes, each on a layer of the technology
 abbrev pub shapes_of : Technology → List LefShape → List Shape
 shapes_of t shapes = map (shape_of t) shapes
 
+-- the via, with its shapes on layers of the technology
 unfoldable pub via_of : Technology → LefVia → TechVia
 via_of t v = record { name = v.name; default = v.default; shapes = shapes_of t v.shapes }
 
+-- the site, in these units
 unfoldable pub site_of : ℕ → LefSite → Site
 site_of units s = record {
   name = s.name;
@@ -55,9 +58,11 @@ site_of units s = record {
   height = in_units units s.height;
 }
 
+-- the terminal that a pin states, with its shapes on layers of the technology
 unfoldable pub terminal_of : Technology → LefPin → MTerm
 terminal_of t p = record { name = p.name; direction = p.direction; usage = p.usage; shapes = shapes_of t p.shapes }
 
+-- the master that a macro states, in the units of the technology, with its site and layers
 unfoldable pub master_of : Technology → LefMacro → Master
 master_of t m = record {
   name = m.name;

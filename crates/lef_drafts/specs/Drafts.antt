@@ -32,6 +32,7 @@ use Rattle.lef_values.specs.Worded.{layer_direction_named, layer_type_named, pin
 
 -- ---- what isn't stated
 
+-- a layer of which only the name is stated
 abbrev pub new_layer : List ℕ → LefLayer
 new_layer name = record {
   name = name;
@@ -43,12 +44,15 @@ new_layer name = record {
   spacing = None;
 }
 
+-- a via of which only the name is stated, and whether it is a default one
 abbrev pub new_via : List ℕ → Bool → LefVia
 new_via name default = record { name = name; default = default; shapes = [] }
 
+-- a site of which only the name is stated
 abbrev pub new_site : List ℕ → LefSite
 new_site name = record { name = name; class = site_class.Core; symmetry = 0; width = None; height = None }
 
+-- a macro of which only the name is stated
 abbrev pub new_macro : List ℕ → LefMacro
 new_macro name = record {
   name = name;
@@ -64,11 +68,13 @@ new_macro name = record {
   obstructions = [];
 }
 
+-- a pin of which only the name is stated
 abbrev pub new_pin : List ℕ → LefPin
 new_pin name = record { name = name; direction = direction.None; usage = usage.None; shapes = [] }
 
 -- ---- headers at the top
 
+-- the section of this name that a header opens
 abbrev pub opened_with_name : Statement → Bool → List ℕ → Draft
 opened_with_name statement.Layer default name = draft.Layer (new_layer name)
 opened_with_name statement.Via default name = draft.Via (new_via name default) None
@@ -76,6 +82,7 @@ opened_with_name statement.Site default name = draft.Site (new_site name)
 opened_with_name statement.Macro default name = draft.Macro (new_macro name)
 opened_with_name _ default name = draft.Top
 
+-- the section that a header opens, where it has a name
 abbrev pub opened_if_named : Statement → Bool → Option (List ℕ) → Draft
 opened_if_named s default None = draft.Top
 opened_if_named s default (Some name) = opened_with_name s default name
@@ -110,6 +117,7 @@ layer_set statement.Width values layer = record layer { width = one_of values }
 layer_set statement.Spacing values layer = record layer { spacing = kept_first layer.spacing (one_of values) }
 layer_set _ values layer = layer
 
+-- of repeated statements the last stands
 unfoldable pub site_set : Statement → Words → LefSite → LefSite
 site_set statement.SiteClass values site = record site { class = site_class_named values }
 site_set statement.Symmetry values site = record site { symmetry = symmetries_of values }
@@ -121,6 +129,7 @@ abbrev pub pin_open : LefMacro → Option (List ℕ) → Draft
 pin_open body None = draft.Macro body
 pin_open body (Some name) = draft.Pin body (new_pin name)
 
+-- the pin that a statement names is open
 abbrev pub pin_opened : Words → LefMacro → Draft
 pin_opened values body = pin_open body (name_of values)
 
@@ -136,6 +145,7 @@ macro_set statement.Pin values body = pin_opened values body
 macro_set statement.Obs values body = draft.Obs body None
 macro_set _ values body = draft.Macro body
 
+-- of repeated statements the last stands; PORT opens a section
 unfoldable pub pin_set : Statement → Words → LefMacro → LefPin → Draft
 pin_set statement.PinDirection values body pin = draft.Pin body (record pin { direction = pin_direction_named values })
 pin_set statement.PinUse values body pin = draft.Pin body (record pin { usage = pin_use_named values })
@@ -149,6 +159,7 @@ abbrev pub with_shape : Option (List ℕ) → Option LefRect → List LefShape �
 with_shape (Some layer) (Some rect) shapes = shapes ++ record { layer = layer; rect = rect } ∷ []
 with_shape _ _ shapes = shapes
 
+-- the shapes with the rectangle of these words on the layer
 abbrev pub with_rect : Words → Option (List ℕ) → List LefShape → List LefShape
 with_rect values layer shapes = with_shape layer (rect_of values) shapes
 
@@ -159,14 +170,17 @@ shapes_set statement.ShapeLayer values layer shapes = (name_of values, shapes)
 shapes_set statement.Rect values layer shapes = (layer, with_rect values layer shapes)
 shapes_set _ values layer shapes = (layer, shapes)
 
+-- the open via, after a statement about its shapes
 abbrev pub via_set : Statement → Words → LefVia → Option (List ℕ) → Draft
 via_set s values via layer =
     let next = shapes_set s values layer via.shapes in draft.Via (record via { shapes = next.1 }) next.0
 
+-- the open port, after a statement about the shapes of its pin
 abbrev pub port_set : Statement → Words → LefMacro → LefPin → Option (List ℕ) → Draft
 port_set s values body pin layer =
     let next = shapes_set s values layer pin.shapes in draft.Port body (record pin { shapes = next.1 }) next.0
 
+-- the open obstructions, after a statement about their shapes
 abbrev pub obs_set : Statement → Words → LefMacro → Option (List ℕ) → Draft
 obs_set s values body layer =
     let next = shapes_set s values layer body.obstructions in draft.Obs (record body { obstructions = next.1 }) next.0
@@ -185,6 +199,7 @@ set s values (draft.Obs body layer) = obs_set s values body layer
 
 -- ---- sections
 
+-- the section that is open
 abbrev pub section_of : Draft → Section
 section_of draft.Top = section.Top
 section_of (draft.Units units) = section.Units

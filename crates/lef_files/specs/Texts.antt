@@ -37,7 +37,7 @@ outcome_of (Err (fault.At line k)) = Ok (read.Refused line (kind_of k))
 outcome_of (Err (fault.Word f)) = word_outcome f
 outcome_of (Err fault.Memory) = Err failure.Memory
 
--- the same for an answer that is no fault of the call; another has line 0, which no text has
+-- an answer that is no fault of the call, as what was read of the file; another has line 0, which no text has
 abbrev pub read_by : Answer → LefFileRead
 read_by answer = result_unwrap_or (outcome_of answer) (read.Refused 0 kind.Unexpected)
 

@@ -19,10 +19,11 @@ use Rattle.lef_forms.specs.Keywords.{is}
 abbrev pub Row : Type 0
 Row = Keyword × Form
 
--- the word begins this statement, or a part that is passed over so far
+-- the word begins this statement, which is taken
 abbrev pub taken : Statement → Form
 taken s = form.Taken s
 
+-- the word begins a part that is passed over, to this extent
 abbrev pub passed : Extent → Form
 passed e = form.Passed e
 

@@ -3,6 +3,7 @@ use Rattle.std.specs.Prelude.{List, [], ◌∷◌, ℕ, codes}
 use Rattle.lef_forms.specs.declared.symmetry.Symmetry.{Symmetry}
 use Rattle.lef_forms.specs.declared.symmetry.Symmetry.TheVariants as symmetry
 
+-- all symmetries, in the order of their bits
 abbrev pub symmetries : List Symmetry
 symmetries = symmetry.X ∷ symmetry.Y ∷ symmetry.R90 ∷ []
 

@@ -65,11 +65,12 @@ abbrev pub LayersAreRead : Type 0
 LayersAreRead = (so_far : SoFar) (name : List ℕ) (lines : List LayerLine) → is_name name ≡ true → AllByRecursion IsLayerLine lines
     → Reads (with_draft so_far draft.Top) (layer_text name lines) (with_item so_far (item.Layer (layer_of name lines)))
 
--- the like of sites
+-- a statement of a site changes what it says, and nothing else
 abbrev pub SiteLinesAreRead : Type 0
 SiteLinesAreRead = (so_far : SoFar) (site : LefSite) (line : SiteLine) → IsSiteLine line
     → Reads (with_draft so_far (draft.Site site)) (site_words line) (with_draft so_far (draft.Site (site_with site line)))
 
+-- a site of any statements in any order is read as that site
 abbrev pub SitesAreRead : Type 0
 SitesAreRead = (so_far : SoFar) (name : List ℕ) (lines : List SiteLine) → is_name name ≡ true → AllByRecursion IsSiteLine lines
     → Reads (with_draft so_far draft.Top) (site_text name lines) (with_item so_far (item.Site (site_of name lines)))

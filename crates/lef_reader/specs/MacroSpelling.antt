@@ -38,23 +38,28 @@ mask_words (Some n) = codes "MASK" ∷ n ∷ []
 abbrev pub rect_words : RectLine → Words
 rect_words r = codes "RECT" ∷ mask_words r.mask ++ r.rect.x1 ∷ r.rect.y1 ∷ r.rect.x2 ∷ r.rect.y2 ∷ semicolon ∷ []
 
+-- the mask, where one is stated, is a number
 abbrev pub IsMask : Option (List ℕ) → Type 0
 IsMask None = ⊤
 IsMask (Some n) = is_number n ≡ true
 
+-- the coordinates of the two corners are numbers
 abbrev pub AreCorners : LefRect → Type 0
 AreCorners r = (is_number r.x1 ≡ true) × (is_number r.y1 ≡ true) × (is_number r.x2 ≡ true) × (is_number r.y2 ≡ true)
 
+-- the words of a rectangle are of its form
 abbrev pub IsRect : RectLine → Type 0
 IsRect r = IsMask r.mask × AreCorners r.rect
 
+-- LAYER name ; and a RECT for each rectangle
 abbrev pub shapes_words : Shapes → Words
 shapes_words s = codes "LAYER" ∷ s.layer ∷ semicolon ∷ flat_map rect_words s.rects
 
+-- the words of shapes on a layer are of their forms
 abbrev pub AreShapes : Shapes → Type 0
 AreShapes s = (is_name s.layer ≡ true) × AllByRecursion IsRect s.rects
 
--- with a rectangle on the layer, whatever its mask
+-- the shapes with a rectangle on the layer, whatever its mask
 abbrev pub with_rect_on : List ℕ → List LefShape → RectLine → List LefShape
 with_rect_on layer shapes r = shapes ++ record { layer = layer; rect = r.rect } ∷ []
 
@@ -62,6 +67,7 @@ with_rect_on layer shapes r = shapes ++ record { layer = layer; rect = r.rect } 
 abbrev pub Drawn : Type 0
 Drawn = Option (List ℕ) × List LefShape
 
+-- the layer that is named then, and the shapes with the rectangles on it
 abbrev pub drawn_with : Drawn → Shapes → Drawn
 drawn_with d s = (Some s.layer, fold (with_rect_on s.layer) d.1 s.rects)
 
@@ -90,7 +96,7 @@ header_words h = stated h.default (codes "DEFAULT") ++ stated h.generated (codes
 abbrev pub via_text : List ℕ → ViaHeader → List Shapes → Words
 via_text name header more = codes "VIA" ∷ name ∷ header_words header ++ flat_map shapes_words more ++ codes "END" ∷ name ∷ []
 
--- of the header only DEFAULT is kept
+-- the via that is spelled so; of its header only DEFAULT is kept
 abbrev pub via_of : List ℕ → ViaHeader → List Shapes → LefVia
 via_of name header more = record { name = name; default = header.default; shapes = shapes_with [] more }
 
@@ -104,6 +110,7 @@ pub data PinLine : Type 0 where
   PinUseIs : List ℕ → PinLine
   PortIs : List Shapes → PinLine
 
+-- the words of a statement of a pin
 abbrev pub pin_words : PinLine → Words
 pin_words (PinDirectionIs w) = codes "DIRECTION" ∷ w ∷ semicolon ∷ []
 pin_words PinIsOutput = codes "DIRECTION" ∷ codes "OUTPUT" ∷ semicolon ∷ []
@@ -111,6 +118,7 @@ pin_words PinIsTristate = codes "DIRECTION" ∷ codes "OUTPUT" ∷ codes "TRISTA
 pin_words (PinUseIs w) = codes "USE" ∷ w ∷ semicolon ∷ []
 pin_words (PortIs more) = codes "PORT" ∷ flat_map shapes_words more ++ codes "END" ∷ []
 
+-- the words of a statement of a pin are of its form
 abbrev pub IsPinLine : PinLine → Type 0
 IsPinLine (PinDirectionIs w) = has set.PinDirection w ≡ true
 IsPinLine PinIsOutput = ⊤
@@ -130,6 +138,7 @@ pin_with pin (PortIs more) = record pin { shapes = shapes_with pin.shapes more }
 abbrev pub pin_text : List ℕ → List PinLine → Words
 pin_text name lines = codes "PIN" ∷ name ∷ flat_map pin_words lines ++ codes "END" ∷ name ∷ []
 
+-- the pin of this name after these statements
 abbrev pub pin_of : List ℕ → List PinLine → LefPin
 pin_of name lines = fold pin_with (new_pin name) lines
 
@@ -147,6 +156,7 @@ pub data MacroLine : Type 0 where
   ObsIs : List Shapes → MacroLine
   PartIs : List ℕ → Words → MacroLine
 
+-- the words of a statement of a macro, or of a part in it
 abbrev pub macro_words : MacroLine → Words
 macro_words (MacroClassIs w others) = codes "CLASS" ∷ w ∷ others ++ semicolon ∷ []
 macro_words (ForeignIs w others) = codes "FOREIGN" ∷ w ∷ others ++ semicolon ∷ []
@@ -158,6 +168,7 @@ macro_words (PinIs name lines) = pin_text name lines
 macro_words (ObsIs more) = codes "OBS" ∷ flat_map shapes_words more ++ codes "END" ∷ []
 macro_words (PartIs first words) = first ∷ words
 
+-- the words of a statement of a macro, or of a part in it, are of its form
 abbrev pub IsMacroLine : MacroLine → Type 0
 IsMacroLine (MacroClassIs w others) = AreOther (w ∷ others)
 IsMacroLine (ForeignIs w others) = AreOther (w ∷ others)
@@ -195,5 +206,6 @@ macro_with m (PartIs first words) = (m.0, min (m.1 + 1) (2 ^ 64 - 1))
 abbrev pub macro_text : List ℕ → List MacroLine → Words
 macro_text name lines = codes "MACRO" ∷ name ∷ flat_map macro_words lines ++ codes "END" ∷ name ∷ []
 
+-- the macro of this name after these statements, and the count of what was left out, from this number on
 abbrev pub macro_of : List ℕ → ℕ → List MacroLine → Counted
 macro_of name count lines = fold macro_with (new_macro name, count) lines

@@ -55,6 +55,7 @@ counted so_far = record so_far { passed = min (so_far.passed + 1) (2 ^ 64 - 1) }
 
 -- ---- sections
 
+-- behind the end of a section, by what that end gives
 abbrev pub by_closed : SoFar → Closed → Reader
 by_closed so_far closed.Text = at (record so_far { draft = draft.Top }) mode.Done
 by_closed so_far closed.Nothing = at (record so_far { draft = draft.Top }) mode.Between
@@ -139,6 +140,7 @@ in_form so_far s left values word = by_places so_far s values word (due (last_pl
 
 -- ---- parts that are passed over
 
+-- behind a word of a part that is passed over, by whether the part goes on, ends with it, or ended before it
 abbrev pub by_passed : SoFar → Passed → Result Reader LefKind
 by_passed so_far (passed.Goes p) = Ok (at so_far (mode.Passing p))
 by_passed so_far passed.Ends = Ok (at so_far mode.Between)
@@ -150,6 +152,7 @@ in_passing so_far p word = by_passed so_far (pass_step p word)
 
 -- ---- words
 
+-- a word, by what is due
 abbrev pub by_mode : SoFar → List ℕ → Mode → Result Reader LefKind
 by_mode so_far word mode.Between = between so_far word
 by_mode so_far word (mode.In s left values) = in_form so_far s left values word
@@ -168,13 +171,16 @@ abbrev pub is_done_in : Mode → Bool
 is_done_in mode.Done = true
 is_done_in _ = false
 
+-- END LIBRARY was read
 abbrev pub is_done : Reader → Bool
 is_done reader = is_done_in reader.mode
 
+-- the first word of a statement is due, or END
 abbrev pub is_between : Mode → Bool
 is_between mode.Between = true
 is_between _ = false
 
+-- no section is open
 abbrev pub is_top : Draft → Bool
 is_top draft.Top = true
 is_top _ = false
@@ -208,10 +214,11 @@ read_from reader (word ∷ words) ending =
     if is_done reader then Ok (tree_of reader)
     else after_step word.line (step_of reader word.bytes) (λ next. read_from next words ending)
 
--- the answer for a text
+-- the answer for a text from a reader on
 abbrev pub lef_from : Reader → WordsRead → Answer
 lef_from reader text = read_from reader text.words text.ending
 
+-- the answer for a text
 abbrev pub lef_of : WordsRead → Answer
 lef_of text = lef_from start text
 

@@ -25,6 +25,7 @@ use Rattle.lef_values.specs.Worded.{layer_direction_named, layer_type_named, sit
 abbrev pub AreOther : Words → Type 0
 AreOther words = AllByRecursion (λ w. is keyword.Semicolon w ≡ false) words
 
+-- the word that ends a statement
 abbrev pub semicolon : List ℕ
 semicolon = codes ";"
 
@@ -64,6 +65,7 @@ pub data LayerLine : Type 0 where
   WidthIs : List ℕ → LayerLine
   SpacingIs : List ℕ → Words → LayerLine
 
+-- the words of a statement of a layer
 abbrev pub layer_words : LayerLine → Words
 layer_words (TypeIs w) = codes "TYPE" ∷ w ∷ semicolon ∷ []
 layer_words (DirectionIs w) = codes "DIRECTION" ∷ w ∷ semicolon ∷ []
@@ -94,6 +96,7 @@ layer_with layer (SpacingIs a others) = record layer { spacing = kept_first laye
 abbrev pub layer_text : List ℕ → List LayerLine → Words
 layer_text name lines = codes "LAYER" ∷ name ∷ flat_map layer_words lines ++ codes "END" ∷ name ∷ []
 
+-- the layer of this name after these statements
 abbrev pub layer_of : List ℕ → List LayerLine → LefLayer
 layer_of name lines = fold layer_with (new_layer name) lines
 
@@ -105,16 +108,19 @@ pub data SiteLine : Type 0 where
   SymmetryIs : List ℕ → Words → SiteLine
   SizeIs : List ℕ → List ℕ → SiteLine
 
+-- the words of a statement of a site
 abbrev pub site_words : SiteLine → Words
 site_words (ClassIs w) = codes "CLASS" ∷ w ∷ semicolon ∷ []
 site_words (SymmetryIs w others) = codes "SYMMETRY" ∷ w ∷ others ++ semicolon ∷ []
 site_words (SizeIs w h) = codes "SIZE" ∷ w ∷ codes "BY" ∷ h ∷ semicolon ∷ []
 
+-- the words of a statement of a site are of its form
 abbrev pub IsSiteLine : SiteLine → Type 0
 IsSiteLine (ClassIs w) = has set.SiteClass w ≡ true
 IsSiteLine (SymmetryIs w others) = AllByRecursion (λ v. has set.Symmetry v ≡ true) (w ∷ others)
 IsSiteLine (SizeIs w h) = (is_number w ≡ true) × (is_number h ≡ true)
 
+-- what it says of the site; of repeated statements the last stands
 abbrev pub site_with : LefSite → SiteLine → LefSite
 site_with site (ClassIs w) = record site { class = site_class_named (w ∷ []) }
 site_with site (SymmetryIs w others) = record site { symmetry = symmetries_of (w ∷ others) }
@@ -124,5 +130,6 @@ site_with site (SizeIs w h) = record site { width = Some w; height = Some h }
 abbrev pub site_text : List ℕ → List SiteLine → Words
 site_text name lines = codes "SITE" ∷ name ∷ flat_map site_words lines ++ codes "END" ∷ name ∷ []
 
+-- the site of this name after these statements
 abbrev pub site_of : List ℕ → List SiteLine → LefSite
 site_of name lines = fold site_with (new_site name) lines

@@ -17,6 +17,7 @@ pub data TextPart : Type 0 where
   SiteIs : List ℕ → List SiteLine → TextPart
   MacroIs : List ℕ → List MacroLine → TextPart
 
+-- the words of a section
 abbrev pub part_words : TextPart → Words
 part_words (UnitsAre n) =
     codes "UNITS" ∷ codes "DATABASE" ∷ codes "MICRONS" ∷ n ∷ semicolon ∷ codes "END" ∷ codes "UNITS" ∷ []
@@ -46,8 +47,10 @@ tree_with tree (SiteIs name lines) = tree_and tree (item.Site (site_of name line
 tree_with tree (MacroIs name lines) =
     record { items = tree.items ++ item.Macro (macro_of name tree.passed lines).0 ∷ []; passed = (macro_of name tree.passed lines).1 }
 
+-- the tree of no sections
 abbrev pub empty_tree : LefTree
 empty_tree = record { items = []; passed = 0 }
 
+-- the tree after these sections
 abbrev pub tree_spelled : List TextPart → LefTree
 tree_spelled parts = fold tree_with empty_tree parts

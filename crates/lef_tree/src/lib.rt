@@ -1,4 +1,4 @@
-//! What a LEF text holds (LEF/DEF 5.8 Language Reference, LEF Syntax): units, layers, vias, sites and macros.
+//! The units, layers, vias, sites and macros of a LEF text (LEF/DEF 5.8 Language Reference, LEF Syntax).
 //!
 //! A [`LefTree`] has them in the order of the text, with the number of parts of the text that it lacks. Distances
 //! stay the decimals that state them, since whether they are coordinates depends on the units.

@@ -22,12 +22,15 @@ abbrev pub rest_of : Words → Words
 rest_of [] = []
 rest_of (word ∷ words) = words
 
+-- the second word
 abbrev pub second_of : Words → Option (List ℕ)
 second_of words = one_of (rest_of words)
 
+-- the third word
 abbrev pub third_of : Words → Option (List ℕ)
 third_of words = second_of (rest_of words)
 
+-- the fourth word
 abbrev pub fourth_of : Words → Option (List ℕ)
 fourth_of words = third_of (rest_of words)
 
@@ -36,6 +39,7 @@ abbrev pub or_first : Option (List ℕ) → Option (List ℕ) → Option (List �
 or_first (Some second) first = Some second
 or_first None first = first
 
+-- the second word, or the first where there is no other
 abbrev pub last_of_two : Words → Option (List ℕ)
 last_of_two words = or_first (second_of words) (one_of words)
 
@@ -53,6 +57,7 @@ abbrev pub corners : Option (List ℕ) → Option (List ℕ) → Option (List �
 corners (Some x1) (Some y1) (Some x2) (Some y2) = Some (record { x1 = x1; y1 = y1; x2 = x2; y2 = y2 })
 corners _ _ _ _ = None
 
+-- two corners, of which the first four words are the coordinates
 abbrev pub four_of : Words → Option LefRect
 four_of words = corners (one_of words) (second_of words) (third_of words) (fourth_of words)
 

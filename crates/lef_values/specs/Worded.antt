@@ -20,15 +20,19 @@ abbrev pub named_first : {A : Type 0} → (List ℕ → Option A) → A → Opti
 named_first value_in default None = default
 named_first value_in default (Some word) = unwrap_or (value_in word) default
 
+-- the type of a layer that the first word names, or Other
 abbrev pub layer_type_named : Words → LayerType
 layer_type_named words = named_first layer_type_in layer_type.Other (one_of words)
 
+-- the direction of a layer that the first word names, or none
 abbrev pub layer_direction_named : Words → LayerDirection
 layer_direction_named words = named_first layer_direction_in layer_direction.None (one_of words)
 
+-- the class of a site that the first word names, or Core
 abbrev pub site_class_named : Words → SiteClass
 site_class_named words = named_first site_class_in site_class.Core (one_of words)
 
+-- the use of a pin that the first word names, or none
 abbrev pub pin_use_named : Words → Usage
 pin_use_named words = named_first usage_in usage.None (one_of words)
 

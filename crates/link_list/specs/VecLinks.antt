@@ -16,11 +16,12 @@ cell links (suc place) = nat_lt place (length links)
 abbrev pub none : Link
 none = record { before = 0; after = 0 }
 
--- 0 has no place
+-- the link of an identifier; 0 has no place
 abbrev pub link_of : List Link → ℕ → Link
 link_of links zero = none
 link_of links (suc place) = slice_index_or links place none
 
+-- the links with another one for the identifier; 0 has no place
 abbrev pub with_link : List Link → ℕ → Link → List Link
 with_link links zero link = links
 with_link links (suc place) link = slice_set links place link
@@ -40,6 +41,7 @@ is_place ids (Some next) = holds ids next
 
 -- The laws of cells.
 
+-- where a link is set, the identifiers with a place stay
 pub cell-with_link : (links : List Link) (id other : ℕ) (link : Link) → cell links id ≡ true
     → cell (with_link links id link) other ≡ cell links other
 cell-with_link links zero other link is = refl
@@ -51,6 +53,7 @@ pub within : (links : List Link) (id : ℕ) → cell links id ≡ true → (0 < 
 within links zero is = absurd (false≢true is)
 within links (suc place) is = (omega arith, omega (arith, ltb-true place (length links) is))
 
+-- the link that is set is that of its identifier then
 pub link_of-set : (links : List Link) (id : ℕ) (link : Link) → cell links id ≡ true
     → link_of (with_link links id link) id ≡ link
 link_of-set links zero link is = absurd (false≢true is)
@@ -58,6 +61,7 @@ link_of-set links (suc place) link is =
     let h : place < length links = omega (arith, (within links (suc place) is).1) in
     get_or-set_same links place link none h
 
+-- where a link is set, those of other identifiers stay
 pub link_of-others : (links : List Link) (id other : ℕ) (link : Link) → cell links id ≡ true → other ≢ id
     → link_of (with_link links id link) other ≡ link_of links other
 link_of-others links zero other link is ne = refl

@@ -32,7 +32,9 @@ fn run<R: Env + Files + Input + Print + AllocGlobal>(rt: &R) -> Status {
     let mut script = StandardInput::new(rt.reader());
     let mut out = StandardOutput::new(io::writer(rt));
     let mut shelf = FolderShelf::new(rt);
-    odb_main(rt.alloc(), &words, &mut script, &mut out, &mut shelf)
+    let status = odb_main(rt.alloc(), &words, &mut script, &mut out, &mut shelf);
+    shelf.discard();
+    status
 }
 
 // The status where the words can't be had. One that isn't UTF-8 is on no lawful command line.

@@ -1,3 +1,4 @@
+pub mod Entering
 pub mod FileLaws
 pub mod Growing
 pub mod Pieces

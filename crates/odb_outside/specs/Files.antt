@@ -1,5 +1,6 @@
 -- Files by name.
-use Rattle.std.specs.Prelude.{◌++◌, List, [], ◌∷◌, ℕ, Option, None, Some, unwrap_or}
+use Rattle.std.specs.Prelude.{◌++◌, List, [], ◌∷◌, ℕ, Option, None, Some, map, unwrap_or}
+use Rattle.std.specs.List.Sorted.{IsStrictlySortedBy}
 use Rattle.std.specs.Ordering.{match_ordering, nat_cmp}
 use Rattle.std.specs.Cmp.Lexicographic.{slice_cmp}
 
@@ -7,6 +8,10 @@ use Rattle.std.specs.Cmp.Lexicographic.{slice_cmp}
 pub record File : Type 0 where
   pub name : List ℕ
   pub bytes : List ℕ
+
+-- the files stand in the order of their names, each name once
+abbrev pub AreInOrder : List File → Type 0
+AreInOrder files = IsStrictlySortedBy (slice_cmp nat_cmp) (map (λ f. f.name) files)
 
 -- the bytes of the file of a name, if there is one, where files stand in the order of their names
 abbrev pub file_of : List ℕ → List File → Option (List ℕ)

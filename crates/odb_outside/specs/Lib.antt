@@ -2,6 +2,7 @@ pub mod Adapters
 pub mod Calls
 pub mod Files
 pub mod Memory
+pub mod Ordered
 pub mod Outside
 pub mod Placing
 pub mod Reading

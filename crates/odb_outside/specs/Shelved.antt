@@ -7,13 +7,14 @@ use Rattle.odb_outside.specs.declared.fault.WriteFault.TheVariants as written
 use Rattle.odb_outside.specs.declared.shelf.Hand.{Hand}
 use Rattle.odb_outside.specs.declared.shelf.Hand.TheVariants as hand
 use Rattle.odb_outside.specs.Calls.{Schedule, fails_next, next_call}
-use Rattle.odb_outside.specs.Files.{File, bytes_of, file_of}
+use Rattle.odb_outside.specs.Files.{AreInOrder, File, bytes_of, file_of}
 use Rattle.odb_outside.specs.Placing.{bytes_at}
 use Rattle.odb_outside.specs.Shelves.{Told}
 
--- what it tells, what is in hand, the most that one call moves, and its calls
+-- what it tells, that its files are in order, what is in hand, the most that one call moves, and its calls
 pub record Shelved : Type 0 where
   pub told : Told
+  pub ordered : AreInOrder told.files
   pub hand : Hand
   pub piece : ℕ
   pub calls : Schedule

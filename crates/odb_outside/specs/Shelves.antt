@@ -8,7 +8,7 @@ use Rattle.odb_outside.specs.declared.fault.WriteFault.{WriteFault}
 use Rattle.odb_outside.specs.declared.fault.WriteFault.TheVariants as write
 use Rattle.odb_outside.specs.declared.shelf.Hand.{Hand}
 use Rattle.odb_outside.specs.declared.shelf.Hand.TheVariants as hand
-use Rattle.odb_outside.specs.Files.{File, file_of, with_file, with_more}
+use Rattle.odb_outside.specs.Files.{AreInOrder, File, file_of, with_file, with_more}
 
 -- what a shelf tells: its files, the name of the one that is being written, and the bytes that are left of the one
 -- that is being read
@@ -25,6 +25,11 @@ HasFiles (Some told) files = told.files ≡ files
 -- the files, where they are told
 abbrev pub files_told : Option Told → Option (List File)
 files_told told = option_map (λ t. t.files) told
+
+-- the files that are told stand in the order of their names, each name once
+abbrev pub TellsInOrder : Option Told → Type 0
+TellsInOrder None = ⊤
+TellsInOrder (Some told) = AreInOrder told.files
 
 -- no file changed, and the files are told as before
 abbrev pub KeepsFiles : Option Told → Option Told → Type 0

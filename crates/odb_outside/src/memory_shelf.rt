@@ -1,4 +1,4 @@
-ghost use Rattle.std.specs.Prelude.{◌≡◌, ◌≢◌, ◌<◌, ◌≤◌, [], IfOk, IsTrue, OnErr, OnOk, Some, length, min, option_copied};
+ghost use Rattle.std.specs.Prelude.{◌≡◌, ◌≢◌, ◌<◌, ◌≤◌, [], IfOk, IsErrOf, IsTrue, OnErr, OnOk, Some, length, min, option_copied};
 ghost use Rattle.std.specs.List.{list_all};
 ghost use Rattle.odb_outside.specs.Calls.{fault_count, faults_end, is_call_number};
 ghost use Rattle.odb_outside.specs.Files.{file_of, with_file};
@@ -29,20 +29,27 @@ pub struct MemoryShelf {
 
 impl Model for MemoryShelf {
     ghost use Rattle.std.specs.Prelude.{◌<◌};
+    ghost use Rattle.std.specs.Coded.{codes};
+    ghost use Rattle.odb_outside.specs.Ordered.{order_code};
     ghost use Rattle.odb_outside.specs.Shelved.{Shelved};
 
     ghost Value = { Shelved };
 
+    ghost coded = { Prim.hlevel (codes, order_code) };
+
+    ghost use Rattle.odb_outside.specs.Files.{AreInOrder};
+    ghost use Rattle.odb_outside.specs.Ordered.{entered, entered_in_order};
     ghost use Rattle.odb_outside.specs.Shelved.{IsInHand, left_of};
 
     ghost view = { λ s. record {
-      told = record { files = s.files; name = s.name.items; left = left_of s.hand s.at s.taken s.files };
+      told = record { files = entered s.files; name = s.name.items; left = left_of s.hand s.at s.taken s.files };
+      ordered = entered_in_order s.files;
       hand = s.hand;
       piece = s.piece;
       calls = s.calls;
     } };
 
-    ghost invariant = { λ s. (0 < s.piece) × IsInHand s.hand s.at s.taken s.name.items s.files };
+    ghost invariant = { λ s. (0 < s.piece) × IsInHand s.hand s.at s.taken s.name.items s.files × AreInOrder s.files };
 }
 
 impl MemoryShelf {
@@ -99,6 +106,8 @@ impl Shelf for MemoryShelf {
 
     ghost faults_end = { λ s. faults_end s.calls };
 
+    ghost files_in_order = { λ s. s.ordered };
+
     fn open(&mut self, name: &str) -> Result<(), OpenFault>
         requires { self.old.hand ≡ Hand.Nothing }
         ensures opens { Opens (Some self.old.told) name.now result (Some self.new.told) }
@@ -149,6 +158,7 @@ impl Shelf for MemoryShelf {
         ensures creates { Creates (Some self.old.told) name.now result (Some self.new.told) }
         ensures hand { self.new.hand ≡ in_hand_written Hand.Nothing Hand.Writing result }
         ensures cause { HasWriteCause (fault_count self.old.calls) (fault_count self.new.calls) result }
+        ensures memory { IsErrOf result WriteFault.Memory → fault_count self.new.calls ≡ fault_count self.old.calls }
         ensures counts { CountsWrite self.old self.new result }
     {
         if self.calls.fails_next() {
@@ -173,6 +183,7 @@ impl Shelf for MemoryShelf {
         ensures writes { WritesFile (Some self.old.told) (Some self.new.told) result from.now }
         ensures hand { self.new.hand ≡ in_hand_written Hand.Writing Hand.Writing result }
         ensures cause { HasWriteCause (fault_count self.old.calls) (fault_count self.new.calls) result }
+        ensures memory { IsErrOf result WriteFault.Memory → fault_count self.new.calls ≡ fault_count self.old.calls }
         ensures counts { CountsWrite self.old self.new result }
         ensures moved { IfOk result (λ n. n ≡ min (length from.now) self.old.piece) }
     {

@@ -1,4 +1,4 @@
-ghost use Rattle.std.specs.Prelude.{◌≡◌, ◌<◌, ◌≤◌, [], Some, IsTrue, IfOk, length, true};
+ghost use Rattle.std.specs.Prelude.{◌≡◌, ◌<◌, ◌≤◌, [], Some, IsErrOf, IsTrue, IfOk, length, true};
 ghost use Rattle.std.specs.List.{list_all};
 ghost use Rattle.odb_outside.specs.Calls.{fault_count, faults_end, is_call_number};
 ghost use Rattle.odb_outside.specs.Memory.{Takes};
@@ -71,6 +71,7 @@ impl Sink for MemorySink {
         ensures some { IfOk result (λ n. 0 < length from.now → 0 < n) }
         ensures bytes { Writes (Some self.old.held) (Some self.new.held) result from.now }
         ensures cause { HasWriteCause (fault_count self.old.calls) (fault_count self.new.calls) result }
+        ensures memory { IsErrOf result WriteFault.Memory → fault_count self.new.calls ≡ fault_count self.old.calls }
         ensures takes { Takes self.old self.new from.now result }
     {
         if self.calls.fails_next() {

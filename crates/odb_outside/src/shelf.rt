@@ -1,6 +1,6 @@
-ghost use Rattle.std.specs.Prelude.{◌≡◌, ◌≢◌, ◌-◌, ◌<◌, ◌≤◌, ◌^◌, List, ℕ, Option, IfOk, length};
+ghost use Rattle.std.specs.Prelude.{◌≡◌, ◌≢◌, ◌-◌, ◌<◌, ◌≤◌, ◌^◌, List, ℕ, Option, IfOk, IsErrOf, length};
 ghost use Rattle.odb_outside.specs.Outside.{HasCause, HasWriteCause};
-ghost use Rattle.odb_outside.specs.Shelves.{Creates, HasOpenCause, KeepsFiles, Opens, ReadsFile, Told, WritesFile, in_hand, in_hand_written};
+ghost use Rattle.odb_outside.specs.Shelves.{Creates, HasOpenCause, KeepsFiles, Opens, ReadsFile, TellsInOrder, Told, WritesFile, in_hand, in_hand_written};
 
 use crate::fault::{Failed, OpenFault, WriteFault};
 
@@ -51,7 +51,8 @@ pub trait Shelf {
         requires { hand self.old ≡ Hand.Nothing }
         ensures creates { Creates (told self.old) name.now result (told self.new) }
         ensures hand { hand self.new ≡ in_hand_written Hand.Nothing Hand.Writing result }
-        ensures cause { HasWriteCause (faults self.old) (faults self.new) result };
+        ensures cause { HasWriteCause (faults self.old) (faults self.new) result }
+        ensures memory { IsErrOf result WriteFault.Memory → faults self.new ≡ faults self.old };
 
     /// Appends some bytes from the front of `from` to the file in hand, and answers how many; of a piece that
     /// isn't empty at least one. After `Failed` nothing is in hand, and a prefix of the piece is appended.
@@ -61,7 +62,8 @@ pub trait Shelf {
         ensures some { IfOk result (λ n. 0 < length from.now → 0 < n) }
         ensures writes { WritesFile (told self.old) (told self.new) result from.now }
         ensures hand { hand self.new ≡ in_hand_written Hand.Writing Hand.Writing result }
-        ensures cause { HasWriteCause (faults self.old) (faults self.new) result };
+        ensures cause { HasWriteCause (faults self.old) (faults self.new) result }
+        ensures memory { IsErrOf result WriteFault.Memory → faults self.new ≡ faults self.old };
 
     /// Puts the file in hand back.
     fn close(&mut self) -> Result<(), Failed>
@@ -72,4 +74,7 @@ pub trait Shelf {
 
     /// The number of faults stops at 2^64 - 1.
     ghost faults_end: { (shelf : Self) → faults shelf ≤ 2 ^ 64 - 1 };
+
+    /// The files that are told stand in the order of their names, each name once.
+    ghost files_in_order: { (shelf : Self) → TellsInOrder (told shelf) };
 }

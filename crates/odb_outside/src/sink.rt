@@ -1,4 +1,4 @@
-ghost use Rattle.std.specs.Prelude.{◌≡◌, ◌-◌, ◌<◌, ◌≤◌, ◌^◌, Bool, List, ℕ, Option, IsTrue, IfOk, length};
+ghost use Rattle.std.specs.Prelude.{◌≡◌, ◌-◌, ◌<◌, ◌≤◌, ◌^◌, Bool, List, ℕ, Option, IsErrOf, IsTrue, IfOk, length};
 ghost use Rattle.odb_outside.specs.Outside.{HasWriteCause};
 ghost use Rattle.odb_outside.specs.Writing.{UnlessFailed, Writes, WritesAll};
 
@@ -22,7 +22,8 @@ pub trait Sink {
     ghost rest: { Self → Rest };
 
     /// Appends some bytes from the front of `from`, and answers how many; of a piece that isn't empty at
-    /// least one. After `Failed` a prefix of the piece is appended, and the object need not be ready.
+    /// least one. After `Failed` a prefix of the piece is appended, and the object need not be ready; `Memory`
+    /// is counted as no fault.
     fn write(&mut self, from: &[u8]) -> Result<usize, WriteFault>
         requires { IsTrue (ready self.old) }
         ensures bound { IfOk result (λ n. n ≤ length from.now) }
@@ -30,6 +31,7 @@ pub trait Sink {
         ensures bytes { Writes (held self.old) (held self.new) result from.now }
         ensures ready { UnlessFailed result (IsTrue (ready self.new)) }
         ensures cause { HasWriteCause (faults self.old) (faults self.new) result }
+        ensures memory { IsErrOf result WriteFault.Memory → faults self.new ≡ faults self.old }
         ensures rest { rest self.new ≡ rest self.old };
 
     /// The number of faults stops at 2^64 - 1.

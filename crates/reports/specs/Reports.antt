@@ -50,6 +50,7 @@ counts_text b = codes "ok" ++ flat_map (λ k. value (live_count_in k b)) kinds +
 abbrev pub iterm_name : List Master → Block → ITermRec → Option (List ℕ)
 iterm_name library b r = option_and_then (λ e. option_and_then (λ m. term_name m r.index) (master_at library e.fields.master)) (record_at b.inst r.inst)
 
+-- a name, or no bytes where there is none
 abbrev pub or_empty : Option (List ℕ) → List ℕ
 or_empty name = unwrap_or name []
 
@@ -74,6 +75,7 @@ term_line library b number = if number % 2 == 0 then iterm_line library b (numbe
 unfoldable pub terms_text : List Master → Block → ℕ → List ℕ
 terms_text library b net = codes "ok" ++ value (length (net_terms b net)) ++ line_end ++ flat_map (term_line library b) (net_terms b net)
 
+-- the text about an object, or that the object isn't there
 abbrev pub of_live : Kind → ℕ → Block → List ℕ → Result (List ℕ) ReportFault
 of_live k id b text = if live_in k id b then Ok text else Err (fault.NotLive k id)
 

@@ -9,5 +9,6 @@ value n = 32 ∷ decimal n
 abbrev pub spaced : List ℕ → List ℕ
 spaced word = 32 ∷ word
 
+-- the byte that ends a line
 abbrev pub line_end : List ℕ
 line_end = 10 ∷ []

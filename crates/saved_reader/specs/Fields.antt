@@ -13,6 +13,7 @@ such passes x = if passes x then Some x else None
 
 -- ---- numbers
 
+-- the number is at least the least and at most the most
 abbrev pub is_between : ℕ → ℕ → ℕ → Bool
 is_between least most n = nat_le least n && nat_le n most
 
@@ -32,6 +33,7 @@ id_at input = plain u32_at input
 unfoldable pub distance_at : (ℤ → Bool) → Reading ℤ
 distance_at passes input = judged (such passes) (plain i32_at) input
 
+-- a coordinate
 abbrev pub coordinate_at : Reading ℤ
 coordinate_at input = distance_at is_coordinate input
 
@@ -48,6 +50,7 @@ is_from (negsuc least) (negsuc n) = nat_le n least && is_coordinate (negsuc n)
 abbrev pub flag_of : ℕ → Option Bool
 flag_of n = if n == 0 then Some false else if n == 1 then Some true else None
 
+-- a flag of one byte
 unfoldable pub flag_at : Reading Bool
 flag_at input = judged flag_of (plain u8_at) input
 
@@ -55,6 +58,7 @@ flag_at input = judged flag_of (plain u8_at) input
 abbrev pub coded : {A : Type 0} → (A → ℕ) → List A → ℕ → Option A
 coded code_of every code = find (λ value. code_of value == code) every
 
+-- a value of a set, by its code of one byte
 unfoldable pub coded_at : {A : Type 0} → (A → ℕ) → List A → Reading A
 coded_at code_of every input = judged (coded code_of every) (plain u8_at) input
 
@@ -76,6 +80,7 @@ no_text_at input = text_at 0 0 input
 abbrev pub is_name : List ℕ → Bool
 is_name bytes = is_none (name_fault bytes)
 
+-- a lawful name
 unfoldable pub name_at : Reading (List ℕ)
 name_at input = judged (such is_name) (text_at 1 4095) input
 

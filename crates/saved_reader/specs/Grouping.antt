@@ -10,6 +10,7 @@ use Rattle.saved_reader.specs.Fields.{coded_at, id_at, name_at, no_text_at}
 use Rattle.saved_reader.specs.Parts.{filled_list_at, ids_at, no_list_at, rect_at}
 use Rattle.saved_reader.specs.Reading.{Reading, made, ◌&◌}
 
+-- the region of these fields
 abbrev pub region_of : ((((List ℕ × RegionType) × List Rect) × List ℕ) × List ℕ) × List ℕ → RegionEntry
 region_of t = record {
   fields = record {
@@ -29,6 +30,7 @@ region_at input = made region_of (
     & no_list_at & no_list_at & no_text_at
     ) input
 
+-- the group of these fields
 abbrev pub group_of : (((List ℕ × ℕ) × List ℕ) × List ℕ) × List ℕ → GroupEntry
 group_of t = record {
   fields = record { name = t.0.0.0.0; region = t.0.0.0.1; kept = t.1 };
@@ -40,6 +42,7 @@ group_of t = record {
 unfoldable pub group_at : Reading GroupEntry
 group_at input = made group_of (name_at & id_at & ids_at & no_list_at & no_text_at) input
 
+-- the property of these fields
 abbrev pub prop_of : (ℕ × ℕ) × List ℕ → PropRec
 prop_of t = record { definition = t.0.0; object = t.0.1; value = t.1 }
 

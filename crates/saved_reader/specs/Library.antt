@@ -11,6 +11,7 @@ use Rattle.saved_reader.specs.Fields.{any_text_at, coded_at, coordinate_at, id_a
 use Rattle.saved_reader.specs.Parts.{list_at, shape_at}
 use Rattle.saved_reader.specs.Reading.{Reading, made, ◌&◌}
 
+-- the terminal of a master of these fields
 abbrev pub mterm_of : ((List ℕ × Direction) × Usage) × List Shape → MTerm
 mterm_of t = record { name = t.0.0.0; direction = t.0.0.1; usage = t.0.1; shapes = t.1 }
 
@@ -22,6 +23,7 @@ mterm_at input = made mterm_of (name_at & coded_at direction_code directions & c
 unfoldable pub extent_at : Reading (((ℤ × ℤ) × ℤ) × ℤ)
 extent_at input = (coordinate_at & coordinate_at & coordinate_at & coordinate_at) input
 
+-- the master of these fields
 abbrev pub master_of : (((((((List ℕ × List ℕ) × (((ℤ × ℤ) × ℤ) × ℤ)) × ℕ) × ℕ) × List ℕ) × List MTerm) × List Shape) → Master
 master_of t =
     let extent = t.0.0.0.0.0.1 in

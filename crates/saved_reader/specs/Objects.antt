@@ -13,6 +13,7 @@ use Rattle.saved_reader.specs.Fields.{coded_at, flag_at, id_at, name_at, no_text
 use Rattle.saved_reader.specs.Parts.{ids_at, list_at, no_list_at, place_at, term_at}
 use Rattle.saved_reader.specs.Reading.{Reading, judged, made, ◌&◌}
 
+-- the instance of these fields
 abbrev pub inst_of : ((((((List ℕ × ℕ) × Placement) × ℕ) × List ℕ) × List ℕ) × List ℕ) → InstEntry
 inst_of t = record {
   fields = record {
@@ -30,6 +31,7 @@ inst_of t = record {
 unfoldable pub inst_at : Reading InstEntry
 inst_at input = made inst_of (name_at & id_at & place_at & number_at 0 0 & ids_at & no_list_at & no_text_at) input
 
+-- the instance terminal of these fields
 abbrev pub iterm_of : (ℕ × ℕ) × ℕ → ITermRec
 iterm_of t = record { inst = t.0.0; index = t.0.1; net = t.1 }
 
@@ -37,6 +39,7 @@ iterm_of t = record { inst = t.0.0; index = t.0.1; net = t.1 }
 unfoldable pub iterm_at : Reading ITermRec
 iterm_at input = made iterm_of (id_at & id_at & id_at) input
 
+-- the net of these fields
 abbrev pub net_of : (((((((List ℕ × Usage) × Bool) × List ℕ) × List ℕ) × List ℕ) × List ℕ) × List ℕ) → NetEntry
 net_of t = record {
   fields = record {
@@ -63,9 +66,11 @@ net_at input = made net_of (
 abbrev pub is_of_block : Direction → Bool
 is_of_block direction = not (direction_code direction == 3)
 
+-- the direction of a block terminal
 unfoldable pub block_direction_at : Reading Direction
 block_direction_at input = judged (such is_of_block) (coded_at direction_code directions) input
 
+-- the block terminal of these fields
 abbrev pub bterm_of : (((((List ℕ × ℕ) × Direction) × Usage) × List ℕ) × List ℕ) → BTermEntry
 bterm_of t = record {
   fields = record {

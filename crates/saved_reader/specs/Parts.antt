@@ -32,11 +32,12 @@ module _ {A : Type 0} where
   unfoldable pub no_list_at : Reading (List A)
   no_list_at input = made (λ n. []) (number_at 0 0) input
 
-  -- what may be absent: a flag, and the value where it is there
+  -- the value of what may be absent, where its flag says that it is there
   abbrev pub stated_at : Reading A → Bool → Reading (Option A)
   stated_at each false input = Ok (None, input)
   stated_at each true input = made Some each input
 
+  -- what may be absent: a flag, and the value where it is there
   unfoldable pub option_at : Reading A → Reading (Option A)
   option_at each input = (flag_at by stated_at each) input
 
@@ -44,6 +45,7 @@ module _ {A : Type 0} where
 abbrev pub none_if_0 : {A : Type 0} → ℕ → Option (Option A)
 none_if_0 n = if n == 0 then Some None else None
 
+-- what may be absent, and isn't there yet: the flag 0
 unfoldable pub absent_at : {A : Type 0} → Reading (Option A)
 absent_at input = judged none_if_0 (plain u8_at) input
 
@@ -70,6 +72,7 @@ may_be_turned status.Cover o = true
 unfoldable pub turn_at : PlaceStatus → Reading Orient
 turn_at placed input = judged (such (may_be_turned placed)) (coded_at orient_code orients) input
 
+-- the placement of these fields
 abbrev pub placement_of : ((PlaceStatus × ℤ) × ℤ) × Orient → Placement
 placement_of t = record { status = t.0.0.0; x = t.0.0.1; y = t.0.1; orientation = t.1 }
 
@@ -82,6 +85,7 @@ place_at input = made placement_of (
     then (λ t. turn_at t.0.0)
     ) input
 
+-- the rectangle of these coordinates
 abbrev pub rect_of : ((ℤ × ℤ) × ℤ) × ℤ → Rect
 rect_of t = record { xl = t.0.0.0; yl = t.0.0.1; xh = t.0.1; yh = t.1 }
 
@@ -93,6 +97,7 @@ rect_at input = made rect_of (
     then (λ t. distance_at (is_from t.0.1))
     ) input
 
+-- the rectangle on the layer of this identifier
 abbrev pub shape_of : ℕ × Rect → Shape
 shape_of t = record { layer = record { 0 = t.0 }; rect = t.1 }
 
@@ -100,11 +105,12 @@ shape_of t = record { layer = record { 0 = t.0 }; rect = t.1 }
 unfoldable pub shape_at : Reading Shape
 shape_at input = made shape_of (id_at & rect_at) input
 
--- The number of a terminal in the list of a net: twice the identifier of an instance terminal, one more than twice
--- that of a block terminal, and 0, which names nothing, for what can't be a terminal.
+-- the number, where four bytes can hold it, and else 0
 abbrev pub fitting : ℕ → ℕ
 fitting n = if nat_lt n 4294967296 then n else 0
 
+-- The number of a terminal in the list of a net: twice the identifier of an instance terminal, one more than twice
+-- that of a block terminal, and 0, which names nothing, for what can't be a terminal.
 abbrev pub term_number : Kind × ℕ → ℕ
 term_number t = if kind_code t.0 == 2 then fitting (2 * t.1) else if kind_code t.0 == 4 then fitting (2 * t.1 + 1) else 0
 
@@ -145,6 +151,7 @@ slot_count_at k cap input = judged (such (may_have k)) (λ i. plain u32_at i >>=
 unfoldable pub free_count_at : Kind → Reading ℕ
 free_count_at k input = judged (such (may_have k)) (plain u32_at) input
 
+-- the table of these slots and free identifiers
 abbrev pub table_of : {A : Type 0} → List (Option A) × List ℕ → Table A
 table_of t = record { slots = t.0; free = t.1 }
 

@@ -24,6 +24,7 @@ use Rattle.saved_reader.specs.Reading.{Reading, made, ◌&◌, ◌then◌}
 
 -- ---- pins
 
+-- the pin of these fields
 abbrev pub pin_of : ((ℕ × Placement) × List Shape) × List ℕ → PinRec
 pin_of t = record { bterm = t.0.0.0; place = t.0.0.1; boxes = t.0.1; kept = t.1 }
 
@@ -47,6 +48,7 @@ may_step row_form.Do (pos n) = n == 0
 may_step row_form.Do (negsuc n) = false
 may_step row_form.DoStep z = is_coordinate z
 
+-- what is said of the sites of a row
 abbrev pub Sites : Type 0
 Sites = (((RowForm × ℕ) × ℕ) × ℤ) × ℤ
 
@@ -60,6 +62,7 @@ sites_at input = (
     then (λ t. distance_at (may_step t.0.0.0))
     ) input
 
+-- the row of these fields
 abbrev pub row_of : (((((List ℕ × ℕ) × ℤ) × ℤ) × Orient) × Sites) × List ℕ → RowEntry
 row_of t =
     let sites = t.0.1 in
@@ -85,6 +88,7 @@ row_at input = made row_of (name_at & id_at & coordinate_at & coordinate_at & co
 
 -- ---- tracks
 
+-- the tracks of these fields
 abbrev pub track_of : (((TrackAxis × ℤ) × ℕ) × ℤ) × List ℕ → TrackRec
 track_of t = record { axis = t.0.0.0.0; start = t.0.0.0.1; count = t.0.0.1; step = t.0.1; layers = t.1 }
 
@@ -97,6 +101,7 @@ track_at input = made track_of (
 
 -- ---- wires
 
+-- the wire of these fields
 abbrev pub wire_of : ((ℕ × WireStatus) × Bool) × List ℕ → WireRec
 wire_of t = record { net = t.0.0.0; status = t.0.0.1; special = t.0.1; code = t.1 }
 
@@ -106,6 +111,7 @@ wire_at input = made wire_of (id_at & coded_at wire_status_code wire_statuses & 
 
 -- ---- blockages
 
+-- the blockage of these fields
 abbrev pub blockage_of : (ℕ × List Rect) × List ℕ → BlockageRec
 blockage_of t = record { layer = t.0.0; rects = t.0.1; kept = t.1 }
 

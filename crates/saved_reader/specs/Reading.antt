@@ -67,5 +67,6 @@ abbrev pub ReadsAs : {X A : Type 0} → (X → A) → Result X ReadFault → Res
 ReadsAs view (Ok x) read after = read ≡ Ok (view x, after)
 ReadsAs view (Err f) read after = Fails f read
 
+-- what a call answered is what reading gives, and it left the input where reading ends
 abbrev pub Reads : {A : Type 0} → Result A ReadFault → Result (A × Cursor) ReadFault → Cursor → Type 0
 Reads answer read after = ReadsAs (λ x. x) answer read after

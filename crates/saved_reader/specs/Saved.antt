@@ -38,6 +38,7 @@ use Rattle.saved_reader.specs.Reading.{Fails, Reading, made, plain, ◌&◌}
 
 -- ---- the block
 
+-- the header of these fields
 abbrev pub header_of : ((((List ℕ × List ℕ) × List ℕ) × Option Rect) × List PropDef) × List BlockVia → Header
 header_of t = record {
   design = t.0.0.0.0.0;
@@ -52,6 +53,7 @@ header_of t = record {
 unfoldable pub header_at : Reading Header
 header_at input = made header_of (no_text_at & word_at (codes "/") & word_at (codes "[]") & absent_at & no_list_at & no_list_at) input
 
+-- the tables of instances, their terminals, nets and block terminals
 abbrev pub Built : Type 0
 Built = ((Table InstEntry × Table ITermRec) × Table NetEntry) × Table BTermEntry
 
@@ -62,10 +64,11 @@ built_at cap input = (
     & table_at kind.Net cap net_at & table_at kind.BTerm cap bterm_at
     ) input
 
+-- the tables of pins, rows, tracks, wires, blockages, regions, groups and properties
 abbrev pub Others : Type 0
 Others = ((((((Table PinRec × Table RowEntry) × Table TrackRec) × Table WireRec) × Table BlockageRec) × Table RegionEntry) × Table GroupEntry) × Table PropRec
 
--- those of the kinds that are still to come
+-- the tables of the kinds that are still to come
 unfoldable pub others_at : ℕ → Reading Others
 others_at cap input = (
     table_at kind.Pin cap pin_at & table_at kind.Row cap row_at
@@ -74,6 +77,7 @@ others_at cap input = (
     & table_at kind.Group cap group_at & table_at kind.Prop cap prop_at
     ) input
 
+-- the block of this header and these tables
 abbrev pub block_of : (Header × Built) × Others → Block
 block_of t = record {
   header = t.0.0;
@@ -114,6 +118,7 @@ known_version p = if p.0 == 1 then Ok (tt, p.1) else Err (fault.Version p.0)
 unfoldable pub version_at : Reading (Unit {0})
 version_at input = plain u32_at input >>= known_version
 
+-- what was read of a saved database, without the mark and the version
 abbrev pub saved_of : (((Unit {0} × Unit {0}) × Technology) × List Master) × Block → Saved
 saved_of t = record { tech = t.0.0.1; library = t.0.1; tables = t.1 }
 

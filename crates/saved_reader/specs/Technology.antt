@@ -17,6 +17,7 @@ use Rattle.saved_reader.specs.Fields.{coded_at, coordinate_at, flag_at, name_at,
 use Rattle.saved_reader.specs.Parts.{list_at, shape_at}
 use Rattle.saved_reader.specs.Reading.{Reading, judged, made, ◌&◌}
 
+-- the layer of these fields
 abbrev pub layer_of : (((((List ℕ × LayerType) × LayerDirection) × ℤ) × ℤ) × ℤ) × ℤ → Layer
 layer_of t = record {
   name = t.0.0.0.0.0.0;
@@ -43,6 +44,7 @@ is_no_orient word = is_none (orient_of word)
 unfoldable pub via_name_at : Reading (List ℕ)
 via_name_at input = judged (such is_no_orient) name_at input
 
+-- the via of these fields
 abbrev pub via_of : (List ℕ × Bool) × List Shape → TechVia
 via_of t = record { name = t.0.0; default = t.0.1; shapes = t.1 }
 
@@ -50,6 +52,7 @@ via_of t = record { name = t.0.0; default = t.0.1; shapes = t.1 }
 unfoldable pub via_at : Reading TechVia
 via_at input = made via_of (via_name_at & flag_at & list_at 1000000 shape_at) input
 
+-- the site of these fields
 abbrev pub site_of : (((List ℕ × SiteClass) × ℕ) × ℤ) × ℤ → Site
 site_of t = record {
   name = t.0.0.0.0;
@@ -63,6 +66,7 @@ site_of t = record {
 unfoldable pub site_at : Reading Site
 site_at input = made site_of (name_at & coded_at site_class_code site_classes & small_at 7 & coordinate_at & coordinate_at) input
 
+-- the technology of these units, layers, vias and sites
 abbrev pub technology_of : ((ℕ × List Layer) × List TechVia) × List Site → Technology
 technology_of t = record { units = t.0.0.0; layers = t.0.0.1; vias = t.0.1; sites = t.1 }
 

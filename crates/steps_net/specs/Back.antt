@@ -39,6 +39,7 @@ use Rattle.steps_net.specs.Do.{do_step, swapped, terms_taken}
 abbrev pub master_of : Block → ℕ → ℕ
 master_of b inst = option_map_or (λ e. e.fields.master) (record_at b.inst inst) 0
 
+-- what is moved out where an object goes: its record, if it has one
 abbrev pub removed : Option Record → Memo
 removed None = memo.Nothing
 removed (Some record_moved) = memo.Record record_moved
@@ -60,42 +61,52 @@ memo_of (step.Part k id net) b = memo.Next (after (net_terms b net) (term_number
 
 -- The parts of a memo. A memo that has no such part gives a first value.
 
+-- whether a slot was added to the table of the new object
 abbrev pub grew_of : Memo → Bool
 grew_of (memo.Grown object terminals) = object
 grew_of other = false
 
+-- how many slots were added to the table of instance terminals
 abbrev pub grown_of : Memo → ℕ
 grown_of (memo.Grown object terminals) = terminals
 grown_of other = 0
 
+-- the name that the object had
 abbrev pub name_moved : Memo → List ℕ
 name_moved (memo.Name name) = name
 name_moved other = []
 
+-- the master that the instance had
 abbrev pub master_moved : Memo → ℕ
 master_moved (memo.Swapped master terminals) = master
 master_moved other = 0
 
+-- the terminals of the instance, in the order of the master that it had
 abbrev pub terminals_moved : Memo → List ℕ
 terminals_moved (memo.Swapped master terminals) = terminals
 terminals_moved other = []
 
+-- the placement that the object had
 abbrev pub place_moved : Memo → Placement
 place_moved (memo.Place place) = place
 place_moved other = unplaced
 
+-- the use that the object had
 abbrev pub usage_moved : Memo → Usage
 usage_moved (memo.Usage usage) = usage
 usage_moved other = usage.None
 
+-- the direction that the block terminal had
 abbrev pub direction_moved : Memo → Direction
 direction_moved (memo.Direction direction) = direction
 direction_moved other = direction.None
 
+-- the member that stood behind the one that left its list, if there was one
 abbrev pub next_moved : Memo → Option ℕ
 next_moved (memo.Next next) = next
 next_moved other = None
 
+-- the record of the object that went, if one did
 abbrev pub record_moved : Memo → Option Record
 record_moved (memo.Record r) = Some r
 record_moved other = None

@@ -70,11 +70,13 @@ pub record CanSwap (library : List Master) (b : Block) (inst master : ℕ) : Typ
   pub is_new : master_at library master ≡ Some new
   pub same : HaveSameTerms old new
 
+-- a lawful placement for an object of a kind that has one
 pub record CanPlace (b : Block) (k : Kind) (id : ℕ) (place : Placement) : Type 0 where
   pub kind : HasPlace k
   pub live : IsTrue (live_in k id b)
   pub lawful : IsPlacement place
 
+-- a use for an object of a kind that has one
 pub record CanSetUse (b : Block) (k : Kind) (id : ℕ) : Type 0 where
   pub kind : HasUsage k
   pub live : IsTrue (live_in k id b)

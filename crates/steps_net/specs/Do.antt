@@ -64,6 +64,7 @@ deleted other id b = given_in other id b
 abbrev pub reordered : Master → Master → List ℕ → List ℕ
 reordered old new terminals = map (λ term. slice_index_or terminals (unwrap_or (term_index old term.name) 0) 0) new.terminals
 
+-- the terminals in the order of the new master, where both masters are there, and else as they were
 abbrev pub reordered_by : Option Master → Option Master → List ℕ → List ℕ
 reordered_by (Some old) (Some new) terminals = reordered old new terminals
 reordered_by None new terminals = terminals

@@ -1,4 +1,4 @@
-//! What elementary steps do to instances, their terminals, nets and terminals of the block, and the ways back.
+//! What elementary steps do to instances, nets and terminals, and the ways back.
 //!
 //! A step changes a table, a list and a field together, and each call here makes one such change of a block, or
 //! takes one back: instances come and go with their terminals ([`instances`]), nets and block terminals come

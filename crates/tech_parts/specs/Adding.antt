@@ -57,6 +57,7 @@ with_part (part.Via v) d = with_tech (with_via v d.tech) d
 with_part (part.Site s) d = with_tech (with_site s d.tech) d
 with_part (part.Master m) d = with_master m d
 
+-- the fault of the part at this place, where it has a cause, and else what follows
 abbrev pub goes_on : ℕ → Option PartCause → Result Database PartFault → Result Database PartFault
 goes_on at None rest = rest
 goes_on at (Some why) rest = Err (fault_at at why)

@@ -79,6 +79,7 @@ with_point path p ext = due_in (with_element path (element.Point p.x p.y ext)) (
 abbrev pub first_step : NamedPath → Option Point → List ℕ → Result OpenPath PathFault
 first_step path former bytes = if is word.Open bytes then Ok (due_in path former (spot.Point point.X)) else Err fault.Bad
 
+-- a word before the first point
 unfoldable pub head_step : HeadSpot → NamedPath → Option Point → List ℕ → Result OpenPath PathFault
 head_step head.Width path former bytes = do
   width ← size_in bytes
@@ -102,6 +103,7 @@ head_step head.Last path former bytes = first_step path former bytes
 
 -- ---- points
 
+-- a word of a point
 unfoldable pub point_step : PointSpot → NamedPath → Option Point → List ℕ → Result OpenPath PathFault
 point_step point.X path former bytes = do
   x ← coordinate_in (option_map (λ p. p.x) former) bytes
@@ -117,6 +119,7 @@ point_step (point.Close p ext) path former bytes =
 
 -- ---- rectangles
 
+-- a word of a rectangle
 unfoldable pub rect_step : RectSpot → NamedPath → Option Point → List ℕ → Result OpenPath PathFault
 rect_step rect.Open path former bytes = if is word.Open bytes then Ok (due_in path former (spot.Rect rect.X1)) else Err fault.Bad
 rect_step rect.X1 path former bytes = do
@@ -149,7 +152,7 @@ abbrev pub after_via : List ℕ → NamedPath → Option Point → List ℕ → 
 after_via via path former bytes (Some orient) = Ok (due_in (with_element path (element.Via via (Some orient))) former spot.Element)
 after_via via path former bytes None = element_step (with_element path (element.Via via None)) former bytes
 
--- by what is due
+-- a word of a path, by what is due
 abbrev pub by_spot : Spot → NamedPath → Option Point → List ℕ → Result OpenPath PathFault
 by_spot (spot.Head s) path former bytes = head_step s path former bytes
 by_spot (spot.Point s) path former bytes = point_step s path former bytes

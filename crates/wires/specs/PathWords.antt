@@ -49,6 +49,7 @@ orient_from bytes = find (λ orient. bytes_eq (orient_word orient) bytes) orient
 
 -- ---- numbers
 
+-- the byte is a digit
 abbrev pub is_digit : ℕ → Bool
 is_digit b = nat_le 48 b && nat_le b 57
 
@@ -73,9 +74,11 @@ is_negative bytes = slice_index bytes 0 == 45
 abbrev pub unsigned : List ℕ → List ℕ
 unsigned bytes = if is_negative bytes then drop 1 bytes else bytes
 
+-- a number, negative or not
 abbrev pub signed : Bool → ℕ → ℤ
 signed negative n = if negative then neg_ℤ (pos n) else pos n
 
+-- a number, where there is one, negative or not
 abbrev pub signed_option : Bool → Option ℕ → Option ℤ
 signed_option negative (Some n) = Some (signed negative n)
 signed_option negative None = None

@@ -1,4 +1,4 @@
-use Rattle.slot_pool.proofs.tests.ids_are_taken_again.Given as goal
+use Rattle.base_tests.proofs.pools.ids_are_taken_again.Given as goal
 
 abbrev pub ghosts-taken_again : goal.ghosts-taken_again
 ghosts-taken_again g a = record { name = a.blank.name; parts = a.blank.parts }

@@ -1,4 +1,4 @@
-use Rattle.slot_pool.proofs.tests.room_and_records.Given as goal
+use Rattle.base_tests.proofs.pools.room_and_records.Given as goal
 
 abbrev pub ghosts-kept_records : goal.ghosts-kept_records
 ghosts-kept_records g a = record { name = a.blank.name; parts = a.blank.parts }

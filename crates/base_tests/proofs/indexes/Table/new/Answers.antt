@@ -1,7 +1,7 @@
 use Rattle.std.specs.FinMap.{empty}
 use Rattle.name_index.specs.VecCells.{cell, chain_of, name_of}
 use Rattle.name_index.proofs.Vectors.{is_index}
-use Rattle.name_index.proofs.tests.Table.new.Goals as goal
+use Rattle.base_tests.proofs.indexes.Table.new.Goals as goal
 
 pub invariant_of-result : goal.invariant_of-result
 invariant_of-result c =

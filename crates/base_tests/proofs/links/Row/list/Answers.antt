@@ -1,7 +1,7 @@
 use Rattle.std.proofs.Common.{◌<◌, arith, length}
 use Rattle.link_list.specs.VecLinks.{link_of, members}
 use Rattle.link_list.proofs.Vectors.{listed_more}
-use Rattle.link_list.proofs.tests.Row.list.Goals as goal
+use Rattle.base_tests.proofs.links.Row.list.Goals as goal
 
 pub loop-next-preserved : goal.loop-next-preserved
 loop-next-preserved c =

@@ -2,7 +2,7 @@
 use Rattle.std.proofs.Common.{◌≡◌, ◌-◌, ◌++◌, length}
 use Rattle.link_list.specs.Standing.{members_from}
 use Rattle.link_list.specs.VecLinks.{link_of, members}
-use Rattle.link_list.proofs.tests.Row.list.Given as goal
+use Rattle.base_tests.proofs.links.Row.list.Given as goal
 
 abbrev pub invariant-loop-next : goal.invariant-loop-next
 invariant-loop-next l =
