@@ -64,12 +64,9 @@ Owes (tag.MakeSpecial net) m c = IsTrue (is_live c.net net)
 Owes (tag.Join k id net) m c = IsJoined k id net c
 Owes (tag.Part k id net) m c = IsRejoined k id net m c
 
--- the step changes a field or a list of an object, other than its name and its terminals
-abbrev pub IsChange : Tag → Type 0
-IsChange (tag.NewInst id master) = ⊥
-IsChange (tag.NewNet id) = ⊥
-IsChange (tag.NewBTerm id) = ⊥
-IsChange (tag.Del k id) = ⊥
-IsChange (tag.Rename k id) = ⊥
-IsChange (tag.Swap inst) = ⊥
-IsChange other = Unit {0}
+-- the step moved no name, no record and no terminals out of the block
+abbrev pub IsPlain : Tag → Type 0
+IsPlain (tag.Del k id) = ⊥
+IsPlain (tag.Rename k id) = ⊥
+IsPlain (tag.Swap inst) = ⊥
+IsPlain other = Unit {0}

@@ -5,7 +5,7 @@ ghost use Rattle.block_store.specs.Block as Model;
 ghost use Rattle.block_store.specs.Moves.{untaken_in, with_name};
 ghost use Rattle.steps_net.specs.Back.{Came, IsLedTo, IsReadyBack, back, grew_of, master_moved, name_moved, record_moved, terminals_moved, undeleted};
 ghost use Rattle.steps_net.specs.Do.{swapped};
-ghost use Rattle.block_steps.specs.Owes.{IsAskedBack, IsChange, IsNamedBack, IsSwappedBack, IsTakenBack, Owes};
+ghost use Rattle.block_steps.specs.Owes.{IsAskedBack, IsNamedBack, IsPlain, IsSwappedBack, IsTakenBack, Owes};
 
 use crate::memos::{direction_before, grew, grown, next, place_before, usage_before};
 use block_records::Record;
@@ -48,22 +48,25 @@ fn undo_one<L: Ledger>(block: &mut Block, tag: Tag, memo: Memo, moves: &mut Step
         Tag::Del { id, .. } => undelete(block, id, memo, moves),
         Tag::Rename { kind, id } => name_back(block, kind, id, memo, moves),
         Tag::Swap { inst } => master_back(block, inst, memo, moves),
-        Tag::NewInst { id, .. } => undo_new_inst(block, id, grew(&memo), grown(&memo), moves),
-        Tag::NewNet { id } => untake(block, Kind::Net, id, &memo, moves),
-        Tag::NewBTerm { id } => untake(block, Kind::BTerm, id, &memo, moves),
-        other => undo_change(block, other, &memo, moves),
+        other => {
+            undo_plain(block, other, &memo, moves);
+            drop(memo);
+        }
     }
 }
 
-// Takes back a change of an object that was there before it and is there after it.
-fn undo_change<L: Ledger>(block: &mut Block, tag: Tag, memo: &Memo, moves: &mut Steps<L>)
-    requires change { IsChange tag }
+// Takes back a step that moved no name, no record and no terminals out of the block.
+fn undo_plain<L: Ledger>(block: &mut Block, tag: Tag, memo: &Memo, moves: &mut Steps<L>)
+    requires plain { IsPlain tag }
     requires owed { Owes tag memo.now block.old.block }
     requires ready { IsReadyBack tag block.old }
     ensures back { block.new.block ≡ back tag memo.now block.old.block }
     ensures cap { block.new.cap ≡ block.old.cap }
 {
     match tag {
+        Tag::NewInst { id, .. } => undo_new_inst(block, id, grew(memo), grown(memo), moves),
+        Tag::NewNet { id } => untake(block, Kind::Net, id, memo, moves),
+        Tag::NewBTerm { id } => untake(block, Kind::BTerm, id, memo, moves),
         Tag::Place { kind, id } => {
             block.set_place(kind, id, place_before(memo), moves);
         }
@@ -90,7 +93,7 @@ fn untake<L: Ledger>(block: &mut Block, kind: Kind, id: u32, memo: &Memo, moves:
     ensures back { block.new.block ≡ untaken_in kind id (grew_of memo.now) block.old.block }
     ensures cap { block.new.cap ≡ block.old.cap }
 {
-    block.untake(kind, id, grew(memo), moves);
+    drop(block.untake(kind, id, grew(memo), moves));
 }
 
 // Puts an object that went back into its table.
@@ -133,7 +136,7 @@ fn master_back<L: Ledger>(block: &mut Block, inst: u32, memo: Memo, moves: &mut 
 {
     match memo {
         Memo::Swapped { master, terminals } => {
-            exchange(block, inst, master, terminals, moves);
+            drop(exchange(block, inst, master, terminals, moves));
         }
         _ => unreachable!(),
     }

@@ -5,8 +5,8 @@ ghost use Rattle.block_store.specs.Names.{IsFree, IsFreeBut};
 ghost use Rattle.odb_base.specs.Ids.{holds};
 ghost use Rattle.odb_base.specs.declared.codes.kind.Kind.TheVariants as kind;
 
-use super::*;
 use block_records::{ITermRec, InstRec, NetRec, Record};
+use block_store::{Block, ListOf, RoomFault, SLOT_LIMIT};
 use odb_base::codes::Coded;
 use odb_base::{ITermId, InstId, Kind, List, Name, NetId, Placement, Steps, Text, Usage};
 use slot_pool::Taken;
@@ -19,14 +19,30 @@ use std::test::Fail;
 #[test]
 fn each_kind_has_room_up_to_the_cap(rt: HostRuntime) -> Result<(), Fail> {
     let mut block = Block::new(rt.alloc(), 2)?;
+    has_room_for_two(&rt, &mut block);
+    drop(block);
+    let mut block = Block::new(rt.alloc(), SLOT_LIMIT)?;
+    has_room_up_to_the_limit(&rt, &mut block);
+    drop(block);
+    Ok(())
+}
+
+fn has_room_for_two(rt: &impl Abort, block: &mut Block) {
     assert_eq!(rt; block.cap(), 2);
     for kind in Kind::every() {
         assert_eq!(rt; block.room(*kind, 2), Ok(()));
         let full = RoomFault::Full { kind: *kind };
         assert_eq!(rt; block.room(*kind, 3), Err(full));
-        is_without(&rt, &block, *kind);
+        is_without(rt, block, *kind);
     }
-    Ok(())
+}
+
+// A table may have 16,777,215 slots. Of the twelve that of the instance terminals takes the least memory.
+fn has_room_up_to_the_limit(rt: &impl Abort, block: &mut Block) {
+    let kind = Kind::ITerm;
+    let full = RoomFault::Full { kind };
+    assert_eq!(rt; block.room(kind, 16_777_216), Err(full));
+    assert_eq!(rt; block.room(kind, 16_777_215), Ok(()));
 }
 
 fn is_without(rt: &impl Abort, block: &Block, kind: Kind) {
@@ -51,8 +67,21 @@ fn nets_with_names<L: Ledger>(rt: &impl Abort, alloc: Global, blank: Blank) -> R
 {
     let mut moves = Steps::<L>::new(blank);
     let mut block = Block::new(alloc, 10)?;
-    take_nets(rt, alloc, &mut block, &mut moves)?;
-    change_nets(rt, alloc, &mut block, &mut moves)
+    let done = take_and_change_nets(rt, alloc, &mut block, &mut moves);
+    drop(block);
+    done
+}
+
+fn take_and_change_nets<L: Ledger>(
+    rt: &impl Abort,
+    alloc: Global,
+    block: &mut Block,
+    moves: &mut Steps<L>,
+) -> Result<(), Fail> {
+    take_net(rt, alloc, block, b"a", 1, moves)?;
+    take_net(rt, alloc, block, b"b", 2, moves)?;
+    take_net(rt, alloc, block, b"c", 3, moves)?;
+    change_nets(rt, alloc, block, moves)
 }
 
 fn change_nets<L: Ledger>(
@@ -69,17 +98,6 @@ fn change_nets<L: Ledger>(
     finds(rt, block);
     untake_net(rt, block, 3, moves);
     Ok(())
-}
-
-fn take_nets<L: Ledger>(
-    rt: &impl Abort,
-    alloc: Global,
-    block: &mut Block,
-    moves: &mut Steps<L>,
-) -> Result<(), Fail> {
-    take_net(rt, alloc, block, b"a", 1, moves)?;
-    take_net(rt, alloc, block, b"b", 2, moves)?;
-    take_net(rt, alloc, block, b"c", 3, moves)
 }
 
 fn finds(rt: &impl Abort, block: &Block) {
@@ -116,7 +134,9 @@ fn joined_terminals<L: Ledger>(rt: &impl Abort, alloc: Global, blank: Blank) -> 
 {
     let mut moves = Steps::<L>::new(blank);
     let mut block = Block::new(alloc, 10)?;
-    join_terminals(rt, alloc, &mut block, &mut moves)
+    let done = join_terminals(rt, alloc, &mut block, &mut moves);
+    drop(block);
+    done
 }
 
 fn join_terminals<L: Ledger>(

@@ -1,6 +1,6 @@
-use super::*;
 use block_store::Database;
 use odb_base::{Kind, Text};
+use reports::{Query, ReportFault, report};
 use std::alloc::Global;
 use std::process::Abort;
 use std::test::Fail;

@@ -2,9 +2,9 @@ ghost use Rattle.std.specs.Prelude.{◌≤◌};
 ghost use Rattle.odb_base.specs.declared.codes.kind.Kind.{Kind as AnyKind};
 ghost use Rattle.block_store.specs.Block.{slots_in};
 
-use super::*;
 use block_records::{BTermRec, Header, NetRec};
 use block_store::{BTermEntry, Block, Ids, NetEntry, PlainTable, Tables};
+use block_tables::{FromTables, TablesFault, fits};
 use library::Library;
 use odb_base::{Direction, Kind, Name, Text, Usage};
 use std::alloc::{AllocError, Global};
@@ -15,73 +15,64 @@ type Place = Option<(Option<Kind>, u32)>;
 
 #[test]
 fn free_lists(rt: HostRuntime) -> Result<(), Fail> {
-    let alloc = rt.alloc();
-    assert_eq!(rt; with_free(alloc, vec![in alloc; 2]?)?, None);
     let table = Some((Some(Kind::Net), 0));
-    assert_eq!(rt; with_free(alloc, Vec::new(alloc))?, table);
-    assert_eq!(rt; with_free(alloc, vec![in alloc; 2, 2]?)?, table);
-    assert_eq!(rt; with_free(alloc, vec![in alloc; 2, 1]?)?, table);
-    assert_eq!(rt; with_free(alloc, vec![in alloc; 2, 3]?)?, table);
+    let rows: [(&[u32], Place); 5] = [
+        (&[2], None),
+        (&[], table),
+        (&[2, 2], table),
+        (&[2, 1], table),
+        (&[2, 3], table),
+    ];
+    for (free, place) in rows.iter() {
+        assert_eq!(rt; with_free(rt.alloc(), free)?, *place, "of {free:?}");
+    }
     Ok(())
 }
 
 // A net, and an empty slot.
-fn with_free(alloc: Global, free: Vec<u32>) -> Result<Place, Fail> {
-    let nets = vec![in alloc; Some(net(alloc, b"a", Vec::new(alloc))?), None]?;
+fn with_free(alloc: Global, free: &[u32]) -> Result<Place, Fail> {
+    let nets = vec![in alloc; Some(net(alloc, b"a", &[])?), None]?;
     judged(alloc, tables(alloc, nets, free, Vec::new(alloc))?)
 }
 
 #[test]
-fn names_and_lists(rt: HostRuntime) -> Result<(), Fail> {
-    let alloc = rt.alloc();
-    assert_eq!(rt; with_list(alloc, b"b", vec![in alloc; 3]?, 1)?, None);
-    // The lesser of two nets of one name.
-    assert_eq!(rt;
-        with_list(alloc, b"a", vec![in alloc; 3]?, 1)?,
-        Some((Some(Kind::Net), 1))
-    );
-    // A terminal that its net doesn't have, has twice, or has though it names another net.
-    assert_eq!(rt;
-        with_list(alloc, b"b", Vec::new(alloc), 1)?,
-        Some((Some(Kind::BTerm), 1))
-    );
-    assert_eq!(rt;
-        with_list(alloc, b"b", vec![in alloc; 3, 3]?, 1)?,
-        Some((Some(Kind::Net), 1))
-    );
-    assert_eq!(rt;
-        with_list(alloc, b"b", vec![in alloc; 3]?, 2)?,
-        Some((Some(Kind::Net), 1))
-    );
-    // A terminal that isn't there, and a net that isn't there.
-    assert_eq!(rt;
-        with_list(alloc, b"b", vec![in alloc; 2]?, 0)?,
-        Some((Some(Kind::Net), 1))
-    );
-    assert_eq!(rt;
-        with_list(alloc, b"b", Vec::new(alloc), 3)?,
-        Some((Some(Kind::BTerm), 1))
-    );
+fn names_lists_and_headers(rt: HostRuntime) -> Result<(), Fail> {
+    let net = Some((Some(Kind::Net), 1));
+    let bterm = Some((Some(Kind::BTerm), 1));
+    let rows: [(&[u8], &[u32], u32, Place); 7] = [
+        (b"b", &[3], 1, None),
+        // The lesser of two nets of one name.
+        (b"a", &[3], 1, net),
+        // A terminal that its net doesn't have, has twice, or has though it names another net.
+        (b"b", &[], 1, bterm),
+        (b"b", &[3, 3], 1, net),
+        (b"b", &[3], 2, net),
+        // A terminal that isn't there, and a net that isn't there.
+        (b"b", &[2], 0, net),
+        (b"b", &[], 3, bterm),
+    ];
+    for (name, terms, joined, place) in rows.iter() {
+        assert_eq!(rt; with_list(rt.alloc(), name, terms, *joined)?, *place);
+    }
+    assert_eq!(rt; with_design(rt.alloc(), b"top")?, Some((None, 0)));
     Ok(())
 }
 
 // Two nets, `a` with this list and one of this name without terminals, and a terminal of the block.
-fn with_list(alloc: Global, name: &[u8], terms: Vec<u32>, joined: u32) -> Result<Place, Fail> {
+fn with_list(alloc: Global, name: &[u8], terms: &[u32], joined: u32) -> Result<Place, Fail> {
     let first = net(alloc, b"a", terms)?;
-    let second = net(alloc, name, Vec::new(alloc))?;
+    let second = net(alloc, name, &[])?;
     let nets = vec![in alloc; Some(first), Some(second)]?;
     let bterms = vec![in alloc; Some(bterm(alloc, joined)?)]?;
-    judged(alloc, tables(alloc, nets, Vec::new(alloc), bterms)?)
+    judged(alloc, tables(alloc, nets, &[], bterms)?)
 }
 
-#[test]
-fn headers(rt: HostRuntime) -> Result<(), Fail> {
-    let alloc = rt.alloc();
-    let design = Text::new(alloc, b"top")?;
-    let mut named = tables(alloc, Vec::new(alloc), Vec::new(alloc), Vec::new(alloc))?;
+// Tables without objects, and a design of this name.
+fn with_design(alloc: Global, design: &[u8]) -> Result<Place, Fail> {
+    let design = Text::new(alloc, design)?;
+    let mut named = tables(alloc, Vec::new(alloc), &[], Vec::new(alloc))?;
     named.header.design = design;
-    assert_eq!(rt; judged(alloc, named)?, Some((None, 0)));
-    Ok(())
+    judged(alloc, named)
 }
 
 // The least place that isn't sound.
@@ -116,7 +107,7 @@ fn place_in(made: Result<Block, TablesFault>) -> Result<Place, Fail> {
     }
 }
 
-fn net(alloc: Global, name: &[u8], terms: Vec<u32>) -> Result<NetEntry, Fail> {
+fn net(alloc: Global, name: &[u8], terms: &[u32]) -> Result<NetEntry, Fail> {
     Ok(NetEntry {
         fields: NetRec {
             name: Name::new(alloc, name)?,
@@ -125,7 +116,7 @@ fn net(alloc: Global, name: &[u8], terms: Vec<u32>) -> Result<NetEntry, Fail> {
             kept: Text::new(alloc, b"")?,
             special_kept: Text::new(alloc, b"")?,
         },
-        terms: Ids::from_vec(terms),
+        terms: Ids::from_vec(terms.to_vec(alloc)?),
         wires: Ids::new(alloc),
         props: Ids::new(alloc),
     })
@@ -147,14 +138,17 @@ fn bterm(alloc: Global, net: u32) -> Result<BTermEntry, Fail> {
 fn tables(
     alloc: Global,
     nets: Vec<Option<NetEntry>>,
-    free: Vec<u32>,
+    free: &[u32],
     bterms: Vec<Option<BTermEntry>>,
 ) -> Result<Tables, AllocError> {
     Ok(Tables {
         header: Header::new(alloc)?,
         inst: empty(alloc),
         iterm: empty(alloc),
-        net: PlainTable { slots: nets, free },
+        net: PlainTable {
+            slots: nets,
+            free: free.to_vec(alloc)?,
+        },
         bterm: PlainTable {
             slots: bterms,
             free: Vec::new(alloc),

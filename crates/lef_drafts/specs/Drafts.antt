@@ -134,16 +134,19 @@ abbrev pub pin_opened : Words → LefMacro → Draft
 pin_opened values body = pin_open body (name_of values)
 
 -- of repeated statements the last stands, but for the first SITE
+abbrev pub macro_stated : Statement → Words → LefMacro → LefMacro
+macro_stated statement.MacroClass values body = record body { class = joined values }
+macro_stated statement.Foreign values body = record body { foreign = joined values }
+macro_stated statement.Origin values body = record body { origin_x = one_of values; origin_y = second_of values }
+macro_stated statement.Size values body = record body { width = one_of values; height = second_of values }
+macro_stated statement.Symmetry values body = record body { symmetry = symmetries_of values }
+macro_stated statement.MacroSite values body = record body { site = kept_first body.site (name_of values) }
+macro_stated _ values body = body
+
 unfoldable pub macro_set : Statement → Words → LefMacro → Draft
-macro_set statement.MacroClass values body = draft.Macro (record body { class = joined values })
-macro_set statement.Foreign values body = draft.Macro (record body { foreign = joined values })
-macro_set statement.Origin values body = draft.Macro (record body { origin_x = one_of values; origin_y = second_of values })
-macro_set statement.Size values body = draft.Macro (record body { width = one_of values; height = second_of values })
-macro_set statement.Symmetry values body = draft.Macro (record body { symmetry = symmetries_of values })
-macro_set statement.MacroSite values body = draft.Macro (record body { site = kept_first body.site (name_of values) })
 macro_set statement.Pin values body = pin_opened values body
 macro_set statement.Obs values body = draft.Obs body None
-macro_set _ values body = draft.Macro body
+macro_set s values body = draft.Macro (macro_stated s values body)
 
 -- of repeated statements the last stands; PORT opens a section
 unfoldable pub pin_set : Statement → Words → LefMacro → LefPin → Draft

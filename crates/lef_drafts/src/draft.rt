@@ -162,12 +162,18 @@ impl Draft {
 }
 
 // The macro behind the end of a pin. A second pin of a name is left out.
-fn with_pin(body: LefMacro, pin: LefPin) -> Result<Closed, AllocError>
+fn with_pin(mut body: LefMacro, pin: LefPin) -> Result<Closed, AllocError>
     ensures { IfOk result (λ closed. closed ≡ with_pin body pin) }
 {
     if body.terminals.has(pin.name.bytes()) {
+        drop(pin);
         return Ok(Closed::LeftOut(Draft::Macro(body)));
     }
-    let terminals = body.terminals.with(pin)?;
-    Ok(Closed::Inner(Draft::Macro(LefMacro { terminals, ..body })))
+    match body.terminals.push(pin) {
+        Ok(()) => Ok(Closed::Inner(Draft::Macro(body))),
+        Err(fault) => {
+            drop(body);
+            Err(fault)
+        }
+    }
 }

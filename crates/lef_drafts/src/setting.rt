@@ -1,5 +1,5 @@
-ghost use Rattle.std.specs.Prelude.{◌≡◌, IfOk};
-ghost use Rattle.lef_drafts.specs.Drafts.{kept_first, layer_set, macro_set, obs_set, pin_opened, pin_set, port_set, shapes_set, site_set, units_set, via_set, with_rect};
+ghost use Rattle.std.specs.Prelude.{◌≡◌, IfOk, OnOk};
+ghost use Rattle.lef_drafts.specs.Drafts.{kept_first, layer_set, macro_set, macro_stated, obs_set, pin_opened, pin_set, port_set, shapes_set, site_set, units_set, via_set, with_rect};
 
 use crate::draft::Draft;
 use crate::opening::new_pin;
@@ -44,14 +44,17 @@ pub fn layer_with(
             direction: layer_direction_named(values),
             ..layer
         }),
-        Statement::Pitch => {
-            let (pitch_x, pitch_y) = values.one_or_two()?;
-            Ok(LefLayer {
+        Statement::Pitch => match values.one_or_two() {
+            Ok((pitch_x, pitch_y)) => Ok(LefLayer {
                 pitch_x,
                 pitch_y,
                 ..layer
-            })
-        }
+            }),
+            Err(fault) => {
+                drop(layer);
+                Err(fault)
+            }
+        },
         Statement::Width => Ok(LefLayer {
             width: values.one(),
             ..layer
@@ -61,6 +64,16 @@ pub fn layer_with(
             Ok(LefLayer { spacing, ..layer })
         }
         _ => Ok(layer),
+    }
+}
+
+// The first of two that is there.
+fn kept_first<T: Drop>(first: Option<T>, second: Option<T>) -> Option<T>
+    ensures { result ≡ kept_first first second }
+{
+    match first {
+        Some(first) => Some(first),
+        None => second,
     }
 }
 
@@ -101,51 +114,9 @@ pub fn macro_with(
     ensures { IfOk result (λ draft. draft ≡ macro_set statement values body) }
 {
     match statement {
-        Statement::MacroClass => Ok(Draft::Macro(LefMacro {
-            class: values.joined(alloc)?,
-            ..body
-        })),
-        Statement::Foreign => Ok(Draft::Macro(LefMacro {
-            foreign: values.joined(alloc)?,
-            ..body
-        })),
-        Statement::Origin => {
-            let (origin_x, origin_y) = values.two();
-            Ok(Draft::Macro(LefMacro {
-                origin_x,
-                origin_y,
-                ..body
-            }))
-        }
-        Statement::Size => {
-            let (width, height) = values.two();
-            Ok(Draft::Macro(LefMacro {
-                width,
-                height,
-                ..body
-            }))
-        }
-        Statement::Symmetry => Ok(Draft::Macro(LefMacro {
-            symmetry: values.symmetries(),
-            ..body
-        })),
-        Statement::MacroSite => {
-            let site = kept_first(body.site, values.name(alloc)?);
-            Ok(Draft::Macro(LefMacro { site, ..body }))
-        }
         Statement::Pin => pin_opened(alloc, values, body),
         Statement::Obs => Ok(Draft::Obs { body, layer: None }),
-        _ => Ok(Draft::Macro(body)),
-    }
-}
-
-// The first of two that is there.
-fn kept_first<T: Drop>(first: Option<T>, second: Option<T>) -> Option<T>
-    ensures { result ≡ kept_first first second }
-{
-    match first {
-        Some(first) => Some(first),
-        None => second,
+        _ => macro_stated(alloc, statement, values, body),
     }
 }
 
@@ -153,13 +124,61 @@ fn kept_first<T: Drop>(first: Option<T>, second: Option<T>) -> Option<T>
 fn pin_opened(alloc: Global, values: Values, body: LefMacro) -> Result<Draft, AllocError>
     ensures { IfOk result (λ draft. draft ≡ pin_opened values body) }
 {
-    match values.name(alloc)? {
-        Some(name) => Ok(Draft::Pin {
+    match values.name(alloc) {
+        Ok(Some(name)) => Ok(Draft::Pin {
             body,
             pin: new_pin(alloc, name),
         }),
-        None => Ok(Draft::Macro(body)),
+        Ok(None) => Ok(Draft::Macro(body)),
+        Err(fault) => {
+            drop(body);
+            Err(fault)
+        }
     }
+}
+
+// A macro with one more statement, which opens nothing.
+fn macro_stated(
+    alloc: Global,
+    statement: Statement,
+    values: Values,
+    mut body: LefMacro,
+) -> Result<Draft, AllocError>
+    ensures { IfOk result (λ draft. draft ≡ Draft.Macro (macro_stated statement values body)) }
+{
+    match state(alloc, statement, values, &mut body) {
+        Ok(()) => Ok(Draft::Macro(body)),
+        Err(fault) => {
+            drop(body);
+            Err(fault)
+        }
+    }
+}
+
+// Puts what a statement says into its macro.
+fn state(
+    alloc: Global,
+    statement: Statement,
+    values: Values,
+    body: &mut LefMacro,
+) -> Result<(), AllocError>
+    ensures { OnOk result (body.new ≡ macro_stated statement values body.old) }
+{
+    match statement {
+        Statement::MacroClass => body.class = values.joined(alloc)?,
+        Statement::Foreign => body.foreign = values.joined(alloc)?,
+        Statement::Origin => (body.origin_x, body.origin_y) = values.two(),
+        Statement::Size => (body.width, body.height) = values.two(),
+        Statement::Symmetry => body.symmetry = values.symmetries(),
+        Statement::MacroSite => {
+            let name = values.name(alloc)?;
+            if body.site.is_none() {
+                body.site = name;
+            }
+        }
+        _ => {}
+    }
+    Ok(())
 }
 
 /// A pin with one more statement, or the port in it that the statement opens.
@@ -196,16 +215,13 @@ pub fn via_with(
     alloc: Global,
     statement: Statement,
     values: Values,
-    via: LefVia,
-    layer: Option<Name>,
+    mut via: LefVia,
+    mut layer: Option<Name>,
 ) -> Result<Draft, AllocError>
     ensures { IfOk result (λ draft. draft ≡ via_set statement values via layer) }
 {
-    let (layer, shapes) = shapes_with(alloc, statement, values, layer, via.shapes)?;
-    Ok(Draft::Via {
-        via: LefVia { shapes, ..via },
-        layer,
-    })
+    draw(alloc, statement, values, &mut layer, &mut via.shapes)?;
+    Ok(Draft::Via { via, layer })
 }
 
 /// A port with one more statement.
@@ -214,17 +230,19 @@ pub fn port_with(
     statement: Statement,
     values: Values,
     body: LefMacro,
-    pin: LefPin,
-    layer: Option<Name>,
+    mut pin: LefPin,
+    mut layer: Option<Name>,
 ) -> Result<Draft, AllocError>
     ensures { IfOk result (λ draft. draft ≡ port_set statement values body pin layer) }
 {
-    let (layer, shapes) = shapes_with(alloc, statement, values, layer, pin.shapes)?;
-    Ok(Draft::Port {
-        body,
-        pin: LefPin { shapes, ..pin },
-        layer,
-    })
+    match draw(alloc, statement, values, &mut layer, &mut pin.shapes) {
+        Ok(()) => Ok(Draft::Port { body, pin, layer }),
+        Err(fault) => {
+            drop(body);
+            drop(pin);
+            Err(fault)
+        }
+    }
 }
 
 /// The obstructions of a macro with one more statement.
@@ -232,58 +250,54 @@ pub fn obs_with(
     alloc: Global,
     statement: Statement,
     values: Values,
-    body: LefMacro,
-    layer: Option<Name>,
+    mut body: LefMacro,
+    mut layer: Option<Name>,
 ) -> Result<Draft, AllocError>
     ensures { IfOk result (λ draft. draft ≡ obs_set statement values body layer) }
 {
-    let (layer, obstructions) = shapes_with(alloc, statement, values, layer, body.obstructions)?;
-    Ok(Draft::Obs {
-        body: LefMacro {
-            obstructions,
-            ..body
-        },
-        layer,
-    })
-}
-
-// The layer of further shapes, and the shapes, with one more statement.
-#[tactic(auto, unfolding(crate::specs::Drafts::shapes_set))]
-fn shapes_with(
-    alloc: Global,
-    statement: Statement,
-    values: Values,
-    layer: Option<Name>,
-    shapes: List<LefShape>,
-) -> Result<(Option<Name>, List<LefShape>), AllocError>
-    ensures { IfOk result (λ next. next ≡ shapes_set statement values layer shapes) }
-{
-    match statement {
-        Statement::ViaLayer | Statement::ShapeLayer => Ok((values.name(alloc)?, shapes)),
-        Statement::Rect => {
-            let shapes = with_rect(values, &layer, shapes)?;
-            Ok((layer, shapes))
+    match draw(alloc, statement, values, &mut layer, &mut body.obstructions) {
+        Ok(()) => Ok(Draft::Obs { body, layer }),
+        Err(fault) => {
+            drop(body);
+            Err(fault)
         }
-        _ => Ok((layer, shapes)),
     }
 }
 
-// The shapes with a rectangle on the layer.
-fn with_rect(
+// Puts what a statement says of shapes behind them, or the layer that it names in the place of the last.
+#[tactic(auto, unfolding(crate::specs::Drafts::shapes_set))]
+fn draw(
+    alloc: Global,
+    statement: Statement,
+    values: Values,
+    layer: &mut Option<Name>,
+    shapes: &mut List<LefShape>,
+) -> Result<(), AllocError>
+    ensures layer { OnOk result (layer.new ≡ (shapes_set statement values layer.old shapes.old).0) }
+    ensures shapes { OnOk result (shapes.new ≡ (shapes_set statement values layer.old shapes.old).1) }
+{
+    match statement {
+        Statement::ViaLayer | Statement::ShapeLayer => *layer = values.name(alloc)?,
+        Statement::Rect => draw_rect(values, layer, shapes)?,
+        _ => {}
+    }
+    Ok(())
+}
+
+// Puts a rectangle on the layer behind the shapes.
+fn draw_rect(
     values: Values,
     layer: &Option<Name>,
-    shapes: List<LefShape>,
-) -> Result<List<LefShape>, AllocError>
-    ensures { IfOk result (λ next. next ≡ with_rect values layer.now shapes) }
+    shapes: &mut List<LefShape>,
+) -> Result<(), AllocError>
+    ensures { OnOk result (shapes.new ≡ with_rect values layer.now shapes.old) }
 {
-    let mut shapes = shapes;
     let Some(layer) = layer else {
-        return Ok(shapes);
+        return Ok(());
     };
     let Some(rect) = values.rect() else {
-        return Ok(shapes);
+        return Ok(());
     };
     let layer = layer.try_clone()?;
-    shapes.push(LefShape { layer, rect })?;
-    Ok(shapes)
+    shapes.push(LefShape { layer, rect })
 }

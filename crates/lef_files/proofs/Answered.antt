@@ -37,15 +37,15 @@ answered (Some bytes) (Err (fault.Word word.Memory)) told = tt
 answered (Some bytes) (Err fault.Memory) told = tt
 
 -- the source is ready after what isn't a fault of the call
-pub ready_on : (P : Type 0) (kept : Option WordFault) (answer : Answer) → IsKept kept answer → (is_read_fault kept ≡ false → P) → OnOk (outcome_of answer) P
-ready_on P kept (Ok tree) is ready = ready (ap is_read_fault is)
-ready_on P kept (Err (fault.At line k)) is ready = ready (ap is_read_fault is)
-ready_on P kept (Err (fault.Word (word.OpenQuote line))) is ready = ready (ap is_read_fault is)
-ready_on P kept (Err (fault.Word (word.LongWord line))) is ready = ready (ap is_read_fault is)
-ready_on P kept (Err (fault.Word (word.TooLong line))) is ready = ready (ap is_read_fault is)
-ready_on P kept (Err (fault.Word word.ReadFault)) is ready = tt
-ready_on P kept (Err (fault.Word word.Memory)) is ready = tt
-ready_on P kept (Err fault.Memory) is ready = tt
+pub ready_on : (P : Type 0) (stood kept : Option WordFault) (answer : Answer) → IsKept stood kept answer → (is_read_fault kept ≡ false → P) → OnOk (outcome_of answer) P
+ready_on P stood kept (Ok tree) is ready = ready (ap is_read_fault is)
+ready_on P stood kept (Err (fault.At line k)) is ready = ready (ap is_read_fault is)
+ready_on P stood kept (Err (fault.Word (word.OpenQuote line))) is ready = ready (ap is_read_fault is)
+ready_on P stood kept (Err (fault.Word (word.LongWord line))) is ready = ready (ap is_read_fault is)
+ready_on P stood kept (Err (fault.Word (word.TooLong line))) is ready = ready (ap is_read_fault is)
+ready_on P stood kept (Err (fault.Word word.ReadFault)) is ready = tt
+ready_on P stood kept (Err (fault.Word word.Memory)) is ready = tt
+ready_on P stood kept (Err fault.Memory) is ready = tt
 
 -- only a failed read fails the call
 pub failed_on : (answer : Answer) → outcome_of answer ≡ Err failure.Failed → answer ≡ Err (fault.Word word.ReadFault)

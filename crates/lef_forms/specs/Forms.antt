@@ -104,7 +104,7 @@ places_of statement.Units = []
 -- LAYER name
 places_of statement.Layer = place.Name ∷ []
 -- VIA name [DEFAULT] [GENERATED] [TOPOFSTACKONLY]
-places_of statement.Via = place.Name ∷ place.Maybe keyword.Default ∷ place.Maybe keyword.Generated ∷ place.Maybe keyword.TopOfStackOnly ∷ []
+places_of statement.Via = place.ViaName ∷ place.Maybe keyword.Default ∷ place.Maybe keyword.Generated ∷ place.Maybe keyword.TopOfStackOnly ∷ []
 -- SITE name
 places_of statement.Site = place.Name ∷ []
 -- MACRO name

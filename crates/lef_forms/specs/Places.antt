@@ -6,7 +6,7 @@ use Rattle.lef_forms.specs.declared.place.Fit.TheVariants as fit
 use Rattle.lef_forms.specs.declared.place.Place.{Place}
 use Rattle.lef_forms.specs.declared.place.Place.TheVariants as place
 use Rattle.lef_forms.specs.Keywords.{is}
-use Rattle.lef_forms.specs.Numbers.{is_name, is_number, per_micron_in}
+use Rattle.lef_forms.specs.Numbers.{is_name, is_number, is_via_name, per_micron_in}
 use Rattle.lef_forms.specs.WordSets.{has}
 
 -- a `;` is no bad number or name
@@ -22,6 +22,7 @@ fit_in place.Number word = if is_number word then fit.Kept else bad word fit.Bad
 fit_in place.MaybeNumber word = if is_number word then fit.Kept else bad word fit.BadNumber
 fit_in place.PerMicron word = if is_some (per_micron_in word) then fit.Kept else bad word fit.BadNumber
 fit_in place.Name word = if is_name word then fit.Kept else bad word fit.BadName
+fit_in place.ViaName word = if is_via_name word then fit.Kept else bad word fit.BadName
 fit_in (place.OneOf set) word = if has set word then fit.Kept else fit.Misfit
 fit_in (place.More set) word = if has set word then fit.KeptHere else fit.Misfit
 fit_in place.Through word = if is keyword.Semicolon word then fit.Ends else fit.Here

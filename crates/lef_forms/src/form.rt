@@ -224,7 +224,7 @@ impl Statement {
             Statement::Units => &[],
             Statement::Layer => &[Place::Name],
             Statement::Via => &[
-                Place::Name,
+                Place::ViaName,
                 Place::Maybe(Keyword::Default),
                 Place::Maybe(Keyword::Generated),
                 Place::Maybe(Keyword::TopOfStackOnly),

@@ -23,7 +23,7 @@ pub mod word_set;
 
 pub use form::{Extent, Form, Section, Statement};
 pub use keyword::Keyword;
-pub use number::{UNITS_LIMIT, is_name, is_number, per_micron_of};
+pub use number::{UNITS_LIMIT, is_name, is_number, is_via_name, per_micron_of};
 pub use passing::{DensitySpot, Passed, Passing};
 pub use place::{Fit, Place, due};
 pub use symmetry::Symmetry;

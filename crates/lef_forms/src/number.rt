@@ -1,10 +1,10 @@
 ghost use Rattle.std.specs.Prelude.{◌≡◌, is_none};
 ghost use Rattle.ld_words.specs.Decimal.{is_decimal, is_digit, unsigned};
 ghost use Rattle.odb_base.specs.Name.{name_fault as fault_of_name};
-ghost use Rattle.lef_forms.specs.Numbers.{is_name, is_number, per_micron_in};
+ghost use Rattle.lef_forms.specs.Numbers.{is_name, is_number, is_orientation, is_via_name, per_micron_in};
 
 use ld_words::{NumberFault, to_units};
-use odb_base::name_fault;
+use odb_base::{Orient, Worded, name_fault};
 
 /// The greatest number of database units per micron (LEF/DEF 5.8 Language Reference, Units).
 pub const UNITS_LIMIT: u32 = 100_000;
@@ -26,6 +26,21 @@ pub fn is_name(word: &[u8]) -> bool
     ensures { result ≡ is_name word.now }
 {
     name_fault(word).is_none()
+}
+
+/// Whether the word is a lawful name of a via, which no orientation has.
+#[tactic(auto, unfolding(crate::specs::Numbers::is_via_name))]
+pub fn is_via_name(word: &[u8]) -> bool
+    ensures { result ≡ is_via_name word.now }
+{
+    !is_orientation(word) && is_name(word)
+}
+
+#[tactic(auto, unfolding(crate::specs::Numbers::is_orientation))]
+fn is_orientation(word: &[u8]) -> bool
+    ensures { result ≡ is_orientation word.now }
+{
+    Orient::from_word(word).is_some()
 }
 
 fn is_decimal_digit(byte: u8) -> bool

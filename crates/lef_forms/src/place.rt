@@ -2,7 +2,7 @@ ghost use Rattle.std.specs.Prelude.{◌≡◌};
 ghost use Rattle.lef_forms.specs.Places.{bad, due, fit_in, is_left_out};
 
 use crate::keyword::Keyword;
-use crate::number::{is_name, is_number, per_micron_of};
+use crate::number::{is_name, is_number, is_via_name, per_micron_of};
 use crate::word_set::WordSet;
 
 /// A place of a statement's form, which a word takes.
@@ -22,6 +22,8 @@ pub enum Place {
     PerMicron,
     /// A lawful name.
     Name,
+    /// A lawful name of a via.
+    ViaName,
     /// A word of the set.
     OneOf(WordSet),
     /// Further words of the set, or none.
@@ -65,11 +67,12 @@ impl Place {
             Place::Number | Place::MaybeNumber if is_number(word) => Fit::Kept,
             Place::PerMicron if per_micron_of(word).is_some() => Fit::Kept,
             Place::Name if is_name(word) => Fit::Kept,
+            Place::ViaName if is_via_name(word) => Fit::Kept,
             Place::OneOf(set) if set.has(word) => Fit::Kept,
             Place::More(set) if set.has(word) => Fit::KeptHere,
             Place::Through | Place::End if Keyword::Semicolon.is(word) => Fit::Ends,
             Place::Number | Place::MaybeNumber | Place::PerMicron => bad(word, Fit::BadNumber),
-            Place::Name => bad(word, Fit::BadName),
+            Place::Name | Place::ViaName => bad(word, Fit::BadName),
             Place::Through => Fit::Here,
             Place::Key(_)
             | Place::Maybe(_)
@@ -94,6 +97,7 @@ impl Place {
             | Place::Number
             | Place::PerMicron
             | Place::Name
+            | Place::ViaName
             | Place::OneOf(_)
             | Place::Through
             | Place::End => false,

@@ -1,18 +1,19 @@
 -- From the words that are left to the answer for the text.
-use Rattle.std.proofs.Common.{◌≡◌, ℕ, true, false, List, [], ◌∷◌, Option, Some, None, Ok, Err, if◌then◌else◌, refl, sym, ap, ◌∙◌, Result}
+use Rattle.std.proofs.Common.{◌≡◌, ℕ, true, false, List, [], ◌∷◌, Option, Some, None, Ok, Err, if◌then◌else◌, inl, inr, refl, sym, ap, ◌∙◌, Result}
 use Rattle.std.specs.Option.{option_map}
 use Rattle.ld_words.specs.declared.word.Word.{Word}
 use Rattle.ld_words.specs.declared.word.WordFault.{WordFault}
 use Rattle.ld_words.specs.declared.word.WordFault.TheVariants as word
 use Rattle.ld_words.specs.Reading.{Done, Ending, Faulty, Reading, done, with_word}
 use Rattle.ld_words.specs.Told.{SameIfTold, ShowsFault}
+use Rattle.ld_words.specs.Words.{reading_after}
 use Rattle.lef_reader.specs.declared.fault.LefFault.{LefFault}
 use Rattle.lef_reader.specs.declared.fault.LefFault.TheVariants as fault
 use Rattle.lef_reader.specs.declared.fault.LefKind.TheVariants as kind
 use Rattle.lef_reader.specs.declared.fault.LefKind.{LefKind}
 use Rattle.lef_reader.specs.declared.reader.Reader.{Reader}
-use Rattle.lef_reader.specs.Answers.{GivesOn, IsAnswer, IsKept, fault_in}
-use Rattle.lef_reader.specs.Reading.{Answer, at_ending, is_done, lef_from, may_end, read_from, step_of, tree_of}
+use Rattle.lef_reader.specs.Answers.{GivesOn, IsAnswer, IsKept, IsLeft, fault_in}
+use Rattle.lef_reader.specs.Reading.{Answer, at_ending, is_done, lef_from, left_behind, left_from, left_of, may_end, read_from, step_of, tree_of}
 
 -- told before a step and after it
 pub told_on : {A : Type 0} (a b c : Option A) → SameIfTold a b → SameIfTold b c → SameIfTold a c
@@ -31,15 +32,24 @@ told_map f g None b h e = tt
 told_map f g (Some x) None h e = absurd h
 told_map f g (Some x) (Some y) h e = e y ∙ ap f h
 
+-- what a text with one more word at its front gives
+told_word : {B : Type 0} (f g : Reading → B) (w : Word) (before after : Option Reading) → ((text : Reading) → f (with_word w text) ≡ g text)
+    → SameIfTold before (option_map (with_word w) after) → SameIfTold (option_map f before) (option_map g after)
+told_word f g w None after first told = tt
+told_word f g w (Some before) None first told = absurd told
+told_word f g w (Some before) (Some after) first told = sym (first after) ∙ ap f told
+
 -- what a word gives is what is read from the next reader on
 pub word-read : (r s : Reader) (w : Word) (before after : Option Reading) → is_done r ≡ false → step_of r w.bytes ≡ Ok s
     → SameIfTold before (option_map (with_word w) after) → SameIfTold (option_map (lef_from r) before) (option_map (lef_from s) after)
 unfolding read_from
-word-read r s w None after due given told = tt
-word-read r s w (Some before) None due given told = absurd told
-word-read r s w (Some before) (Some after) due given told =
-    let first : lef_from r (with_word w after) ≡ lef_from s after = rw (due, given) refl in
-    sym first ∙ ap (lef_from r) told
+word-read r s w before after due given told = told_word (lef_from r) (lef_from s) w before after (λ text. rw (due, given) refl) told
+
+-- and so is what is left
+pub word-left : (r s : Reader) (w : Word) (before after : Option Reading) → is_done r ≡ false → step_of r w.bytes ≡ Ok s
+    → SameIfTold before (option_map (with_word w) after) → SameIfTold (option_map (left_from r) before) (option_map (left_from s) after)
+unfolding left_behind
+word-left r s w before after due given told = told_word (left_from r) (left_from s) w before after (λ text. rw (due, given) refl) told
 
 -- a word that its place doesn't take is the fault of the text
 pub word-stops : (r : Reader) (w : Word) (k : LefKind) (before after : Option Reading) → is_done r ≡ false → step_of r w.bytes ≡ Err k
@@ -112,25 +122,81 @@ end-answer r line before told =
     elim (may_end r) as (λ b. SameIfTold X (Some (if b then tree else cut)) → IsAnswer X (if b then tree else cut)) [ true ↦ λ h. h | false ↦ λ h. h ] (end-read r line before told)
 
 -- the fault that is kept
-pub fault-kept : (kept : Option WordFault) (f : WordFault) → kept ≡ Some f → IsKept kept (Err (fault_in f))
-fault-kept kept (word.OpenQuote line) h = h
-fault-kept kept (word.LongWord line) h = h
-fault-kept kept (word.TooLong line) h = h
-fault-kept kept word.ReadFault h = h
-fault-kept kept word.Memory h = tt
+pub fault-kept : (stood kept : Option WordFault) (f : WordFault) → kept ≡ Some f → IsKept stood kept (Err (fault_in f))
+fault-kept stood kept (word.OpenQuote line) h = h
+fault-kept stood kept (word.LongWord line) h = h
+fault-kept stood kept (word.TooLong line) h = h
+fault-kept stood kept word.ReadFault h = h
+fault-kept stood kept word.Memory h = inr h
 
 -- none is kept where a word isn't taken
-pub stop-kept : (kept : Option WordFault) (line : ℕ) (f : LefFault) (read : Result Reader LefKind) → kept ≡ None → GivesOn line (Err f) read → IsKept kept (Err f)
-stop-kept kept line (fault.At l k) read h given = h
-stop-kept kept line (fault.Word f) read h given = absurd given
-stop-kept kept line fault.Memory read h given = tt
+pub stop-kept : (stood kept : Option WordFault) (line : ℕ) (f : LefFault) (read : Result Reader LefKind) → stood ≡ None → kept ≡ None → GivesOn line (Err f) read → IsKept stood kept (Err f)
+stop-kept stood kept line (fault.At l k) read s h given = h
+stop-kept stood kept line (fault.Word f) read s h given = absurd given
+stop-kept stood kept line fault.Memory read s h given = inl (h ∙ sym s)
 
 -- nor where the text ends
-pub end-kept : (kept : Option WordFault) (r : Reader) (line : ℕ) → kept ≡ None → IsKept kept (at_ending r (Done line))
-end-kept kept r line h =
+pub end-kept : (stood kept : Option WordFault) (r : Reader) (line : ℕ) → kept ≡ None → IsKept stood kept (at_ending r (Done line))
+end-kept stood kept r line h =
     let tree : Answer = Ok (tree_of r) in
     let cut : Answer = Err (fault.At line kind.Cut) in
-    elim (may_end r) as (λ b. IsKept kept (if b then tree else cut)) [ true ↦ h | false ↦ h ]
+    elim (may_end r) as (λ b. IsKept stood kept (if b then tree else cut)) [ true ↦ h | false ↦ h ]
+
+-- no fault stood where a word was given
+pub none-stood : {T : Type 0} (stood : Option WordFault) (given : T) → ((f : WordFault) → stood ≡ Some f → Ok given ≡ Err f) → stood ≡ None
+none-stood None given kept = refl
+none-stood (Some f) given kept = let e = kept f refl in cc
+
+-- ---- what is left
+
+-- behind END LIBRARY all words are left
+pub done-left : (r : Reader) (words : List Word) (ending : Ending) → is_done r ≡ true → left_behind r words ending ≡ record { words = words; ending = ending }
+unfolding left_behind
+done-left r [] ending h = refl
+done-left r (w ∷ words) ending h = rw h refl
+
+pub text-left : (r : Reader) (before : Option Reading) → is_done r ≡ true → SameIfTold (option_map (left_from r) before) before
+text-left r None h = tt
+text-left r (Some before) h = sym (done-left r before.words before.ending h)
+
+-- where a word isn't taken those behind it are left
+word-stops-left : (r : Reader) (w : Word) (k : LefKind) (before after : Option Reading) → is_done r ≡ false → step_of r w.bytes ≡ Err k
+    → SameIfTold before (option_map (with_word w) after) → SameIfTold (option_map (left_from r) before) after
+unfolding left_behind
+word-stops-left r w k None after due given told = tt
+word-stops-left r w k (Some before) None due given told = absurd told
+word-stops-left r w k (Some before) (Some after) due given told =
+    let first : left_from r (with_word w after) ≡ after = rw (due, given) refl in
+    sym first ∙ ap (left_from r) told
+
+pub stop-left : (whole : Option Reading) (r : Reader) (w : Word) (f : LefFault) (before after : Option Reading) → is_done r ≡ false → GivesOn w.line (Err f) (step_of r w.bytes)
+    → SameIfTold before (option_map (with_word w) after) → SameIfTold (option_map left_of whole) (option_map (left_from r) before) → IsLeft whole after (Err f)
+stop-left whole r w (fault.At line k) before after due given told h = told_on _ _ _ h (word-stops-left r w k before after due given.1 told)
+stop-left whole r w (fault.Word f) before after due given told h = absurd given
+stop-left whole r w fault.Memory before after due given told h = tt
+
+-- where the text ends nothing is left
+text-ends-left : (r : Reader) (line : ℕ) (before after : Option Reading) → SameIfTold before (Some (done line)) → SameIfTold before after → SameIfTold (option_map (left_from r) before) after
+unfolding left_behind
+text-ends-left r line None after told same = tt
+text-ends-left r line (Some before) None told same = absurd same
+text-ends-left r line (Some before) (Some after) told same = same ∙ sym told ∙ ap (left_from r) told
+
+pub end-left : (whole : Option Reading) (r : Reader) (line : ℕ) (before after : Option Reading) → SameIfTold before (Some (done line)) → SameIfTold before after
+    → SameIfTold (option_map left_of whole) (option_map (left_from r) before) → IsLeft whole after (at_ending r (Done line))
+end-left whole r line before after told same h =
+    let tree : Answer = Ok (tree_of r) in
+    let cut : Answer = Err (fault.At line kind.Cut) in
+    let left = told_on _ _ _ h (text-ends-left r line before after told same) in
+    elim (may_end r) as (λ b. IsLeft whole after (if b then tree else cut)) [ true ↦ left | false ↦ left ]
+
+-- a fault of a word is what is left
+pub fault-left : (whole reading : Option Reading) (kept : Option WordFault) (f : WordFault) → kept ≡ Some f → IsLeft whole (reading_after kept reading) (Err (fault_in f))
+fault-left whole reading kept (word.OpenQuote line) h = rw h refl
+fault-left whole reading kept (word.LongWord line) h = rw h refl
+fault-left whole reading kept (word.TooLong line) h = rw h refl
+fault-left whole reading kept word.ReadFault h = rw h refl
+fault-left whole reading kept word.Memory h = tt
 
 -- a failed read of the words
 pub read-failed : (f : WordFault) → fault_in f ≡ fault.Word word.ReadFault → f ≡ word.ReadFault

@@ -6,7 +6,7 @@ use Rattle.std.proofs.lemmas.Slice.Eq.{bytes_eq-Decides}
 use Rattle.std.specs.List.{AllByRecursion, flat_map}
 use Rattle.std.specs.Str.{bytes_eq}
 use Rattle.ld_words.specs.declared.word.Word.{Word}
-use Rattle.ld_words.specs.Reading.{Done, Ending, Faulty}
+use Rattle.ld_words.specs.Reading.{Done, Ending, Faulty, Reading as WordsRead}
 use Rattle.lef_forms.specs.declared.form.Form.{Form}
 use Rattle.lef_forms.specs.declared.form.Form.TheVariants as form
 use Rattle.lef_forms.specs.declared.form.Statement.{Statement}
@@ -38,7 +38,7 @@ use Rattle.lef_tree.specs.declared.tree.LefLayer.{LefLayer}
 use Rattle.lef_tree.specs.declared.tree.LefSite.{LefSite}
 use Rattle.lef_drafts.specs.Drafts.{close, layer_set, new_layer, new_site, opened, section_of, set as set_of, site_set}
 use Rattle.lef_reader.specs.Laws.{AnswersAreOne, LayerLinesAreRead, LayersAreRead, LinesSayNothing, OthersArePassedOver, PartsArePassedOver, Reads, SiteLinesAreRead, SitesAreRead, after, run, with_draft, with_item}
-use Rattle.lef_reader.specs.Reading.{Answer, after_step, at, begun, between, by_fit, by_passed, closed_of, closing, counted, ended, in_form, in_passing, last_places, moved, read_from, step_of, tree_of, whole}
+use Rattle.lef_reader.specs.Reading.{Answer, after_step, at, begun, between, by_fit, by_passed, closed_of, closing, counted, ended, in_form, in_passing, is_done, last_places, left_after, left_behind, moved, read_from, step_of, tree_of, whole}
 use Rattle.lef_reader.specs.Spelling.{AreOther, ClassIs, DirectionIs, IsLayerLine, IsSiteLine, LayerLine, PitchIs, PitchesAre, SiteLine, SizeIs, SpacingIs, SymmetryIs, TypeIs, WidthIs, is_over, is_passed, is_whole, layer_of, layer_with, layer_words, semicolon, site_of, site_with, site_words}
 use Rattle.lef_values.specs.Values.{Words}
 
@@ -257,3 +257,33 @@ lines-at (w ∷ words) more ending so_far mode.Closing next h =
 
 pub lines-nothing : LinesSayNothing
 lines-nothing reader next words more ending h = lines-at words more ending reader.so_far reader.mode next h
+
+-- on with a word that its place takes, and to what is left then
+left-on : (behind : List Word) (ending : Ending) (step : Result Reader LefKind) (next : Reader) (words : Words) (left : Reader → WordsRead) (rest : WordsRead)
+    → ((s : Reader) → run s words ≡ Ok next → left s ≡ rest) → after step (λ s. run s words) ≡ Ok next → left_after behind ending step left ≡ rest
+left-on behind ending (Ok s) next words left rest on h = on s h
+left-on behind ending (Err k) next words left rest on h = cc
+
+left-at : (words more : List Word) (ending : Ending) (so_far : SoFar) (m : Mode) (next : Reader) → is_done next ≡ false
+    → run (at so_far m) (map (λ w. w.bytes) words) ≡ Ok next → left_behind (at so_far m) (words ++ more) ending ≡ left_behind next more ending
+unfolding run left_behind
+left-at [] more ending so_far m next due h = let same : at so_far m ≡ next = cc in ap (λ r. left_behind r more ending) same
+left-at (w ∷ words) more ending so_far mode.Done next due h =
+    absurd (true≢false (ap is_done (stays so_far next (map (λ v. v.bytes) (w ∷ words)) h) ∙ due))
+left-at (w ∷ words) more ending so_far mode.Between next due h =
+    left-on (words ++ more) ending (step_of (at so_far mode.Between) w.bytes) next (map (λ v. v.bytes) words) (λ r. left_behind r (words ++ more) ending) (left_behind next more ending)
+    (λ r. left-at words more ending r.so_far r.mode next due) h
+left-at (w ∷ words) more ending so_far (mode.In s left values) next due h =
+    left-on (words ++ more) ending (step_of (at so_far (mode.In s left values)) w.bytes) next (map (λ v. v.bytes) words) (λ r. left_behind r (words ++ more) ending) (left_behind next more ending)
+    (λ r. left-at words more ending r.so_far r.mode next due) h
+left-at (w ∷ words) more ending so_far (mode.Passing p) next due h =
+    left-on (words ++ more) ending (step_of (at so_far (mode.Passing p)) w.bytes) next (map (λ v. v.bytes) words) (λ r. left_behind r (words ++ more) ending) (left_behind next more ending)
+    (λ r. left-at words more ending r.so_far r.mode next due) h
+left-at (w ∷ words) more ending so_far mode.Closing next due h =
+    left-on (words ++ more) ending (step_of (at so_far mode.Closing) w.bytes) next (map (λ v. v.bytes) words) (λ r. left_behind r (words ++ more) ending) (left_behind next more ending)
+    (λ r. left-at words more ending r.so_far r.mode next due) h
+
+-- words that lead to a reader for which more are due leave what stands behind them
+pub words-left : (reader next : Reader) (words more : List Word) (ending : Ending) → is_done next ≡ false
+    → run reader (map (λ w. w.bytes) words) ≡ Ok next → left_behind reader (words ++ more) ending ≡ left_behind next more ending
+words-left reader next words more ending due h = left-at words more ending reader.so_far reader.mode next due h

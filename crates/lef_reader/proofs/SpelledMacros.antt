@@ -1,13 +1,14 @@
 -- Vias, pins and macros that are spelled out are read as they are.
-use Rattle.std.proofs.Common.{◌≡◌, ℕ, ◌+◌, ◌-◌, ◌^◌, Bool, true, false, List, [], ◌∷◌, ◌++◌, Option, Some, None, codes, fold, if◌then◌else◌, min, not, refl, sym, ap, ◌∙◌, append_assoc}
+use Rattle.std.proofs.Common.{◌≡◌, ℕ, ◌+◌, ◌-◌, ◌^◌, ◌&&◌, Bool, true, false, List, [], ◌∷◌, ◌++◌, Option, Some, None, codes, fold, if◌then◌else◌, min, not, refl, sym, ap, ◌∙◌, append_assoc}
 use Rattle.std.specs.List.{AllByRecursion, flat_map}
 use Rattle.odb_base.specs.Direction.{direction_word}
+use Rattle.odb_base.specs.Orient.{orient_word}
 use Rattle.lef_forms.specs.declared.form.Statement.TheVariants as statement
 use Rattle.lef_forms.specs.declared.keyword.Keyword.TheVariants as keyword
 use Rattle.lef_forms.specs.declared.word_set.WordSet.TheVariants as set
 use Rattle.lef_forms.specs.Forms.{form_of}
 use Rattle.lef_forms.specs.Keywords.{is, text_of}
-use Rattle.lef_forms.specs.Numbers.{is_name, is_number}
+use Rattle.lef_forms.specs.Numbers.{is_name, is_number, is_orientation, is_via_name}
 use Rattle.lef_forms.specs.Places.{fit_in, is_left_out}
 use Rattle.lef_forms.specs.WordSets.{direction_in, has}
 use Rattle.lef_drafts.specs.declared.draft.Closed.TheVariants as closed
@@ -21,7 +22,7 @@ use Rattle.lef_tree.specs.declared.tree.LefRect.{LefRect}
 use Rattle.lef_tree.specs.declared.tree.LefShape.{LefShape}
 use Rattle.lef_tree.specs.declared.tree.LefVia.{LefVia}
 use Rattle.lef_drafts.specs.Drafts.{close, macro_set, new_macro, new_pin, new_via, opened, pin_set, set as set_of, shapes_set, with_pin}
-use Rattle.lef_reader.specs.Laws.{MacroLinesAreRead, MacrosAreRead, PinsAreRead, Reads, ViasAreRead, in_macro, run, with_draft, with_item, with_macro}
+use Rattle.lef_reader.specs.Laws.{MacroLinesAreRead, MacrosAreRead, OrientationsNameNoVia, PinsAreRead, Reads, ViasAreRead, in_macro, run, with_draft, with_item, with_macro}
 use Rattle.lef_reader.specs.MacroSpelling.{AreCorners, AreShapes, Counted, Drawn, ForeignIs, IsMacroLine, IsMask, IsPinLine, IsRect, MacroClassIs, MacroLine, MacroSizeIs, MacroSymmetryIs, ObsIs, OriginIs, PartIs, PinDirectionIs, PinIs, PinIsOutput, PinIsTristate, PinLine, PinUseIs, PortIs, RectLine, Shapes, SiteNamed, ViaHeader, drawn_with, header_words, macro_with, macro_words, pin_of, pin_with, pin_words, rect_words, shapes_words, with_named_pin, with_rect_on}
 use Rattle.lef_tree.specs.Pins.{has_pin}
 use Rattle.lef_reader.specs.Reading.{at, begun, between, by_closed, by_fit, closed_of, closing, ended, in_form, moved, step_of, whole}
@@ -126,22 +127,26 @@ obs-rect so_far body l shapes r fits = obs-rect-on so_far body l shapes r.mask r
 abbrev header : Bool → Bool → Bool → ViaHeader
 header default generated top_of_stack = record { default = default; generated = generated; top_of_stack = top_of_stack }
 
-via-begins : (so_far : SoFar) (name : List ℕ) (default generated top : Bool) (more : List Shapes) (rest : Words) → is_name name ≡ true
+via_is_named : (name : List ℕ) → is_via_name name ≡ true → is_name name ≡ true
+unfolding is_via_name
+via_is_named name h = elim (is_orientation name) as (λ b. (not b && is_name name) ≡ true → is_name name ≡ true) [ true ↦ λ e. cc | false ↦ λ e. e ] h
+
+via-begins : (so_far : SoFar) (name : List ℕ) (default generated top : Bool) (more : List Shapes) (rest : Words) → is_via_name name ≡ true → is_name name ≡ true
     → run (at (with_draft so_far draft.Top) mode.Between) (codes "VIA" ∷ name ∷ (header_words (header default generated top) ++ (flat_map shapes_words more ++ codes "END" ∷ rest)))
     ≡ run (at (in_via so_far (new_via name default) (None, [])) mode.Between) (flat_map shapes_words more ++ codes "END" ∷ rest)
 unfolding run step_of between begun moved in_form by_fit whole set_of opened form_of fit_in is_left_out is
-via-begins so_far name false false false [] rest named = rw (named, named) refl
-via-begins so_far name false false false (s ∷ more) rest named = rw (named, named) refl
-via-begins so_far name false false true more rest named = rw (named, named) refl
-via-begins so_far name false true false [] rest named = rw (named, named) refl
-via-begins so_far name false true false (s ∷ more) rest named = rw (named, named) refl
-via-begins so_far name false true true more rest named = rw (named, named) refl
-via-begins so_far name true false false [] rest named = rw (named, named) refl
-via-begins so_far name true false false (s ∷ more) rest named = rw (named, named) refl
-via-begins so_far name true false true more rest named = rw (named, named) refl
-via-begins so_far name true true false [] rest named = rw (named, named) refl
-via-begins so_far name true true false (s ∷ more) rest named = rw (named, named) refl
-via-begins so_far name true true true more rest named = rw (named, named) refl
+via-begins so_far name false false false [] rest fits named = rw (fits, named) refl
+via-begins so_far name false false false (s ∷ more) rest fits named = rw (fits, named) refl
+via-begins so_far name false false true more rest fits named = rw (fits, named) refl
+via-begins so_far name false true false [] rest fits named = rw (fits, named) refl
+via-begins so_far name false true false (s ∷ more) rest fits named = rw (fits, named) refl
+via-begins so_far name false true true more rest fits named = rw (fits, named) refl
+via-begins so_far name true false false [] rest fits named = rw (fits, named) refl
+via-begins so_far name true false false (s ∷ more) rest fits named = rw (fits, named) refl
+via-begins so_far name true false true more rest fits named = rw (fits, named) refl
+via-begins so_far name true true false [] rest fits named = rw (fits, named) refl
+via-begins so_far name true true false (s ∷ more) rest fits named = rw (fits, named) refl
+via-begins so_far name true true true more rest fits named = rw (fits, named) refl
 
 via-ends : (so_far : SoFar) (via : LefVia) (d : Drawn) (rest : Words)
     → run (at (in_via so_far via d) mode.Between) (codes "END" ∷ via.name ∷ rest) ≡ run (at (with_item so_far (item.Via (record via { shapes = d.1 }))) mode.Between) rest
@@ -154,9 +159,18 @@ vias-read so_far name h more named all rest =
     let via = new_via name h.default in
     ap text (append_assoc (header_words h ++ flat_map shapes_words more) (codes "END" ∷ name ∷ []) rest
     ∙ append_assoc (header_words h) (flat_map shapes_words more) (codes "END" ∷ name ∷ rest))
-    ∙ via-begins so_far name h.default h.generated h.top_of_stack more (name ∷ rest) named
+    ∙ via-begins so_far name h.default h.generated h.top_of_stack more (name ∷ rest) named (via_is_named name named)
     ∙ shapes-read (in_via so_far via) (via-layer so_far via) (via-rect so_far via) (None, []) more all (codes "END" ∷ name ∷ rest)
     ∙ via-ends so_far via (fold drawn_with (None, []) more) rest
+
+no_orientation : is_orientation semicolon ≡ false
+unfolding is_orientation orient_word
+no_orientation = refl
+
+pub orientations-name-none : OrientationsNameNoVia
+unfolding run step_of between begun moved in_form by_fit form_of fit_in is_left_out is_via_name is
+orientations-name-none so_far word rest turned =
+    let unlike = not_keyword keyword.Semicolon is_orientation word no_orientation turned in rw (turned, unlike) refl
 
 -- ---- pins
 

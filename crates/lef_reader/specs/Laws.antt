@@ -6,10 +6,11 @@ use Rattle.ld_words.specs.Reading.{Ending, Reading as WordsRead}
 use Rattle.lef_forms.specs.declared.keyword.Keyword.TheVariants as keyword
 use Rattle.lef_forms.specs.Forms.{form_of}
 use Rattle.lef_forms.specs.Keywords.{is}
-use Rattle.lef_forms.specs.Numbers.{is_name}
+use Rattle.lef_forms.specs.Numbers.{is_name, is_orientation, is_via_name}
 use Rattle.lef_drafts.specs.declared.draft.Draft.{Draft}
 use Rattle.lef_drafts.specs.declared.draft.Draft.TheVariants as draft
 use Rattle.lef_reader.specs.declared.fault.LefKind.{LefKind}
+use Rattle.lef_reader.specs.declared.fault.LefKind.TheVariants as kind
 use Rattle.lef_reader.specs.declared.reader.Mode.TheVariants as mode
 use Rattle.lef_reader.specs.declared.reader.Reader.{Reader}
 use Rattle.lef_reader.specs.declared.reader.SoFar.{SoFar}
@@ -19,7 +20,7 @@ use Rattle.lef_tree.specs.declared.tree.LefLayer.{LefLayer}
 use Rattle.lef_tree.specs.declared.tree.LefSite.{LefSite}
 use Rattle.lef_drafts.specs.Drafts.{section_of}
 use Rattle.lef_reader.specs.MacroSpelling.{AreShapes, Counted, IsMacroLine, IsPinLine, MacroLine, PinLine, Shapes, ViaHeader, macro_of, macro_text, macro_with, macro_words, pin_of, pin_text, via_of, via_text, with_named_pin}
-use Rattle.lef_reader.specs.Reading.{Answer, at, counted, lef_of, read_from, step_of}
+use Rattle.lef_reader.specs.Reading.{Answer, at, counted, left_of, lef_of, read_from, step_of}
 use Rattle.lef_reader.specs.Spelling.{AreOther, IsLayerLine, IsPassedOver, IsSiteLine, LayerLine, SiteLine, layer_of, layer_text, layer_with, layer_words, semicolon, site_of, site_text, site_with, site_words}
 use Rattle.lef_reader.specs.TextSpelling.{IsPart, TextPart, part_words, tree_spelled}
 use Rattle.lef_values.specs.Values.{Words}
@@ -88,8 +89,13 @@ PartsArePassedOver = (so_far : SoFar) (first : List ℕ) (words : Words) → IsP
 
 -- a via of any shapes is read as that via
 abbrev pub ViasAreRead : Type 0
-ViasAreRead = (so_far : SoFar) (name : List ℕ) (header : ViaHeader) (more : List Shapes) → is_name name ≡ true → AllByRecursion AreShapes more
+ViasAreRead = (so_far : SoFar) (name : List ℕ) (header : ViaHeader) (more : List Shapes) → is_via_name name ≡ true → AllByRecursion AreShapes more
     → Reads (with_draft so_far draft.Top) (via_text name header more) (with_item so_far (item.Via (via_of name header more)))
+
+-- the word of an orientation is no name where that of a via is due, and the fault is at it
+abbrev pub OrientationsNameNoVia : Type 0
+OrientationsNameNoVia = (so_far : SoFar) (word : List ℕ) (rest : Words) → is_orientation word ≡ true
+    → run (at (with_draft so_far draft.Top) mode.Between) (codes "VIA" ∷ word ∷ rest) ≡ Err kind.BadName
 
 -- with this macro open, and so many parts that were passed over or left out
 abbrev pub in_macro : SoFar → Counted → SoFar
@@ -119,3 +125,9 @@ abbrev pub TextsAreRead : Type 0
 TextsAreRead = (parts : List TextPart) (words more : List Word) (ending : Ending) → AllByRecursion IsPart parts
     → map (λ w. w.bytes) words ≡ flat_map part_words parts ++ codes "END" ∷ codes "LIBRARY" ∷ []
     → lef_of (record { words = words ++ more; ending = ending }) ≡ Ok (tree_spelled parts)
+
+-- and what stands behind END LIBRARY is left
+abbrev pub WordsBehindAreLeft : Type 0
+WordsBehindAreLeft = (parts : List TextPart) (words more : List Word) (ending : Ending) → AllByRecursion IsPart parts
+    → map (λ w. w.bytes) words ≡ flat_map part_words parts ++ codes "END" ∷ codes "LIBRARY" ∷ []
+    → left_of (record { words = words ++ more; ending = ending }) ≡ record { words = more; ending = ending }

@@ -222,6 +222,27 @@ lef_from reader text = read_from reader text.words text.ending
 abbrev pub lef_of : WordsRead → Answer
 lef_of text = lef_from start text
 
+-- ---- what is left
+
+-- on with the next reader, or these words behind the one at fault
+abbrev pub left_after : List Word → Ending → Result Reader LefKind → (Reader → WordsRead) → WordsRead
+left_after words ending (Ok next) rest = rest next
+left_after words ending (Err k) rest = record { words = words; ending = ending }
+
+-- what is left of a text where its reading ends: what stands behind END LIBRARY or behind the word at fault, or how
+-- the text ends
+unfoldable pub left_behind : Reader → List Word → Ending → WordsRead
+left_behind reader [] ending = record { words = []; ending = ending }
+left_behind reader (word ∷ words) ending =
+    if is_done reader then record { words = word ∷ words; ending = ending }
+    else left_after words ending (step_of reader word.bytes) (λ next. left_behind next words ending)
+
+abbrev pub left_from : Reader → WordsRead → WordsRead
+left_from reader text = left_behind reader text.words text.ending
+
+abbrev pub left_of : WordsRead → WordsRead
+left_of text = left_from start text
+
 -- ---- answers of calls
 
 -- a call gave what reading gives, or memory ran out

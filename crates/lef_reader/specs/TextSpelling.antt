@@ -1,7 +1,7 @@
 -- Texts spelled out by their sections, and what they say.
 use Rattle.std.specs.Prelude.{◌≡◌, ◌++◌, true, List, [], ◌∷◌, ℕ, codes, fold, is_some, unwrap_or}
 use Rattle.std.specs.List.{AllByRecursion}
-use Rattle.lef_forms.specs.Numbers.{is_name, per_micron_in}
+use Rattle.lef_forms.specs.Numbers.{is_name, is_via_name, per_micron_in}
 use Rattle.lef_tree.specs.declared.tree.LefItem.{LefItem}
 use Rattle.lef_tree.specs.declared.tree.LefItem.TheVariants as item
 use Rattle.lef_tree.specs.declared.tree.LefTree.{LefTree}
@@ -30,7 +30,7 @@ part_words (MacroIs name lines) = macro_text name lines
 abbrev pub IsPart : TextPart → Type 0
 IsPart (UnitsAre n) = is_some (per_micron_in n) ≡ true
 IsPart (LayerIs name lines) = (is_name name ≡ true) × AllByRecursion IsLayerLine lines
-IsPart (ViaIs name header more) = (is_name name ≡ true) × AllByRecursion AreShapes more
+IsPart (ViaIs name header more) = (is_via_name name ≡ true) × AllByRecursion AreShapes more
 IsPart (SiteIs name lines) = (is_name name ≡ true) × AllByRecursion IsSiteLine lines
 IsPart (MacroIs name lines) = (is_name name ≡ true) × AllByRecursion IsMacroLine lines
 

@@ -1,6 +1,6 @@
 // Laws of the grammar. Each is the contract of a function that does nothing.
 
-ghost use Rattle.lef_reader.specs.Laws.{AnswersAreOne, LayerLinesAreRead, LayersAreRead, LinesSayNothing, MacroLinesAreRead, MacrosAreRead, OthersArePassedOver, PartsArePassedOver, PinsAreRead, SiteLinesAreRead, SitesAreRead, TextsAreRead, ViasAreRead};
+ghost use Rattle.lef_reader.specs.Laws.{AnswersAreOne, LayerLinesAreRead, LayersAreRead, LinesSayNothing, MacroLinesAreRead, MacrosAreRead, OrientationsNameNoVia, OthersArePassedOver, PartsArePassedOver, PinsAreRead, SiteLinesAreRead, SitesAreRead, TextsAreRead, ViasAreRead, WordsBehindAreLeft};
 
 /// A text has one answer, and the lines of its words say nothing but where a fault is.
 pub fn texts_have_one_answer()
@@ -28,9 +28,11 @@ pub fn other_statements_are_passed_over()
     ensures parts { PartsArePassedOver }
 {}
 
-/// A via of any shapes, whatever words stand behind its name, is read as that via.
+/// A via of any shapes, whatever words stand behind its name, is read as that via. The word of an orientation isn't
+/// the name of a via.
 pub fn vias_are_read()
-    ensures { ViasAreRead }
+    ensures vias { ViasAreRead }
+    ensures orientations { OrientationsNameNoVia }
 {}
 
 /// A statement of a macro, or a section in it, changes what it says of the macro and nothing else, and a macro of
@@ -41,7 +43,9 @@ pub fn macros_are_read()
     ensures macros { MacrosAreRead }
 {}
 
-/// A text of such sections in any order, with `END LIBRARY` and whatever behind them, has the tree that they say.
+/// A text of such sections in any order, with `END LIBRARY` and whatever behind them, has the tree that they say, and
+/// what stands behind is left.
 pub fn texts_are_read()
-    ensures { TextsAreRead }
+    ensures trees { TextsAreRead }
+    ensures left { WordsBehindAreLeft }
 {}

@@ -4,7 +4,7 @@ ghost use Rattle.odb_outside.specs.Outside.{Rose};
 ghost use Rattle.ld_words.specs.Cause.{is_read_fault};
 ghost use Rattle.ld_words.specs.Reading.{Done};
 ghost use Rattle.ld_words.specs.Words.{fault_of, reading_left, source_of};
-ghost use Rattle.lef_reader.specs.Answers.{GivesOn, IsAnswer, IsKept, fault_in};
+ghost use Rattle.lef_reader.specs.Answers.{GivesOn, IsAnswer, IsKept, IsLeft, fault_in};
 ghost use Rattle.lef_reader.specs.Reading.{at_ending, lef_of, step_of};
 
 use crate::fault::{LefFault, LefKind, Stop};
@@ -24,11 +24,15 @@ use std::alloc::Global;
 ///
 /// `At` comes exactly at the first word that its place doesn't take, with its line, or with the line on which
 /// the text ends where it ends too early (`Cut`). `Word` hands on a fault of the words.
+///
+/// The words behind `END LIBRARY`, or behind the word at fault, are left to be read. After `Memory` no fault is kept
+/// in `words` but one that stood there, or want of memory for a word.
 pub fn read_lef<S: Source + Drop>(alloc: Global, words: &mut Words<S>) -> Result<LefTree, LefFault>
     ensures answer { IsAnswer (option_map lef_of (reading_left words.old)) result }
+    ensures left { IsLeft (reading_left words.old) (reading_left words.new) result }
 
     // `Word` comes exactly where `next` answered the fault, which is kept there.
-    ensures kept { IsKept (fault_of words.new) result }
+    ensures kept { IsKept (fault_of words.old) (fault_of words.new) result }
     ensures failed { IsErrOf result (LefFault.Word WordFault.ReadFault) → fault_of words.old ≡ None
         → Rose (S.faults (source_of words.old)) (S.faults (source_of words.new)) }
     ensures later { S.faults (source_of words.old) ≤ S.faults (source_of words.new) }

@@ -30,7 +30,10 @@ impl OpenSection {
     {
         match Box::new(alloc, Draft::Top) {
             Ok(draft) => Ok(OpenSection { draft }),
-            Err(_) => Err(AllocError),
+            Err(refused) => {
+                drop(refused);
+                Err(AllocError)
+            }
         }
     }
 

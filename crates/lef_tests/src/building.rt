@@ -1,5 +1,5 @@
-use super::*;
 use edit_words::TechPart;
+use lef_build::{BuildFault, Parts, parts_of};
 use lef_tree::{LefItem, LefLayer, LefMacro, LefPins, LefRect, LefShape, LefSite, LefTree, LefVia};
 use library::{Library, Master};
 use odb_base::{LayerDirection, LayerType, List, Name, Rect, SiteClass, Text};

@@ -2,7 +2,7 @@ ghost use Rattle.std.specs.Prelude.{◌<◌, IsTrue};
 ghost use Rattle.std.specs.List.{list_all};
 ghost use Rattle.odb_outside.specs.Calls.{is_call_number};
 
-use super::*;
+use lef_files::{LefFileFault, LefFileRead, read_lef_file, texts_have_outcomes};
 use odb_outside::MemoryShelf;
 use shelf_files::FileFault;
 use std::alloc::Global;
@@ -31,7 +31,7 @@ enum Read {
     Refused(u64, LefFileFault),
 }
 
-const ROWS: [(&[u8], Read); 7] = [
+const ROWS: [(&[u8], Read); 8] = [
     (
         b"VERSION 5.8 ; SITE core SIZE 1 BY 2 ; END core MACRO inv SITE core ; END inv END LIBRARY \"",
         Read::Tree(2, 1),
@@ -46,6 +46,7 @@ const ROWS: [(&[u8], Read); 7] = [
         Read::Refused(2, LefFileFault::BadNumber),
     ),
     (b"\n\nLAYER a*b", Read::Refused(3, LefFileFault::BadName)),
+    (b"VIA N END N", Read::Refused(1, LefFileFault::BadName)),
     (b"MACRO m\n\n", Read::Refused(3, LefFileFault::Cut)),
     (
         b"MACRO m\nCLASS \"a\n",

@@ -1,4 +1,5 @@
-ghost use Rattle.std.specs.Prelude.{◌≡◌, ◌++◌, ◌∷◌, [], IfOk, false};
+ghost use Rattle.std.specs.Prelude.{◌≡◌, ◌++◌, ◌∷◌, [], OnErr, OnOk, false};
+ghost use Rattle.lef_tree.specs.Pins.{has_key, names_of};
 
 use crate::tree::LefPin;
 use indexmap::IndexSet;
@@ -63,18 +64,33 @@ impl LefPins {
         self.names.contains(name)
     }
 
-    /// With one more pin at the end, whose name no pin may have.
-    pub fn with(self, pin: LefPin) -> Result<LefPins, AllocError>
-        requires { has_pin pin.name self ≡ false }
-        ensures { IfOk result (λ pins. pins ≡ self ++ pin ∷ []) }
+    /// Puts a pin last, whose name no pin may have. A refusal leaves the pins as they were.
+    pub fn push(&mut self, pin: LefPin) -> Result<(), AllocError>
+        requires { has_pin pin.name self.old ≡ false }
+        ensures ok { OnOk result (self.new ≡ self.old ++ pin ∷ []) }
+        ensures err { OnErr result (self.new ≡ self.old) }
     {
-        let LefPins {
-            mut pins,
-            mut names,
-        } = self;
-        let name = pin.name.bytes().to_vec(*names.allocator())?;
-        names.insert(name)?;
-        pins.push(pin)?;
-        Ok(LefPins { pins, names })
+        if let Err(fault) = enter(&mut self.names, pin.name.bytes()) {
+            drop(pin);
+            return Err(fault);
+        }
+        match self.pins.push(pin) {
+            Ok(()) => Ok(()),
+            Err(fault) => {
+                self.names.truncate(self.pins.items().len());
+                Err(fault)
+            }
+        }
     }
+}
+
+// Puts a copy of a name last that isn't there.
+fn enter(names: &mut IndexSet<Vec<u8>>, name: &[u8]) -> Result<(), AllocError>
+    requires { has_key name.now names.old.keys ≡ false }
+    ensures ok { OnOk result (names_of names.new.keys ≡ names_of names.old.keys ++ name.now ∷ []) }
+    ensures err { OnErr result (names.new.keys ≡ names.old.keys) }
+{
+    let copy = name.to_vec(*names.allocator())?;
+    names.insert(copy)?;
+    Ok(())
 }

@@ -1,5 +1,5 @@
-use super::*;
 use odb_base::Kind;
+use saved_reader::{ReadFault, read_saved};
 use std::alloc::{AllocError, Global};
 use std::test::Fail;
 
@@ -9,7 +9,7 @@ mod records;
 // have any. There are a layer, a via and a site, a master with a terminal and an obstruction, an instance of it, a net
 // that joins the instance's terminal and one of the block, and two empty slots behind that net.
 const TECHNOLOGY: [(&[u8], &[u8]); 24] = [
-    (b"\xe8\x03\0\0", b"\xa1\x86\x01\0"),
+    (b"\xa0\x86\x01\0", b"\xa1\x86\x01\0"),
     (b"\x01\0\0\0", b"\x41\x42\x0f\0"),
     (b"\x01\0\0\0m", b"\x01\0\0\0;"),
     (b"\x01", b"\x06"),
@@ -270,4 +270,62 @@ fn counts_are_judged_before_what_they_count(rt: HostRuntime) -> Result<(), Fail>
     few.extend_from_slice(b"\xff\xff\xff\xff")?;
     assert_eq!(rt; fault(alloc, &few, 3), Some(ReadFault::BadField { at: 24 }));
     Ok(())
+}
+
+// The numbers of the fields that count layers, vias, shapes of a via, sites, masters, terminals of a master, and
+// shapes of a terminal and of obstructions, each with the greatest value that it may have.
+const GREATEST_COUNTS: [(usize, &[u8]); 8] = [
+    (2, b"\x40\x42\x0f\0"),
+    (10, b"\x40\x42\x0f\0"),
+    (13, b"\x40\x42\x0f\0"),
+    (19, b"\x40\x42\x0f\0"),
+    (25, b"\x40\x42\x0f\0"),
+    (35, b"\xff\xff\0\0"),
+    (39, b"\x40\x42\x0f\0"),
+    (40, b"\x40\x42\x0f\0"),
+];
+
+#[test]
+fn counts_reach_their_limits(rt: HostRuntime) -> Result<(), Fail> {
+    let alloc = rt.alloc();
+    for (number, greatest) in GREATEST_COUNTS.iter() {
+        let bytes = cut_behind(alloc, *number, greatest)?;
+        let cut = ReadFault::Cut {
+            at: bytes.len() as u64,
+        };
+        assert_eq!(rt; fault(alloc, &bytes, 3), Some(cut), "of field {number}");
+    }
+    // 16,777,215 slots of instances, and one more.
+    let slots = with_slots(alloc, b"\xff\xff\xff\0")?;
+    let cut = ReadFault::Cut {
+        at: slots.len() as u64,
+    };
+    assert_eq!(rt; fault(alloc, &slots, 16_777_215), Some(cut));
+    let over = ReadFault::OverCap { kind: Kind::Inst };
+    let slots = with_slots(alloc, b"\0\0\0\x01")?;
+    assert_eq!(rt; fault(alloc, &slots, 16_777_215), Some(over));
+    Ok(())
+}
+
+// The bytes up to the field of this number, which has this value.
+fn cut_behind(alloc: Global, number: usize, value: &[u8]) -> Result<Vec<u8>, AllocError> {
+    let mut stream = stream_with(alloc, number)?;
+    stream.bytes.truncate(stream.at as usize);
+    stream.bytes.extend_from_slice(value)?;
+    Ok(stream.bytes)
+}
+
+// The bytes up to the number of slots of the first table.
+fn with_slots(alloc: Global, count: &[u8]) -> Result<Vec<u8>, AllocError> {
+    let mut stream = Stream {
+        bytes: b"ODBS\x01\0\0\0".to_vec(alloc)?,
+        left: 0,
+        at: 0,
+        any: true,
+    };
+    stream.put(&TECHNOLOGY)?;
+    stream.put(&LIBRARY)?;
+    stream.put(&HEADER)?;
+    stream.bytes.extend_from_slice(count)?;
+    Ok(stream.bytes)
 }

@@ -1,6 +1,6 @@
-use super::*;
 use block_store::Database;
 use odb_base::Kind;
+use odb_save::{LoadFault, load, save};
 use std::alloc::{AllocError, Global};
 use std::test::Fail;
 

@@ -43,6 +43,7 @@ fn read_all(alloc: Global, bytes: &[u8], cap: u32) -> Result<Saved, ReadFault>
     if at == bytes.len() as u64 {
         Ok(saved)
     } else {
+        drop(saved);
         Err(ReadFault::Trailing { at })
     }
 }

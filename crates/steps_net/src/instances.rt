@@ -132,7 +132,7 @@ fn untake_terms<L: Ledger>(
     ensures cap { block.new.cap ≡ block.old.cap }
 {
     for index in (0..terminals.len()).rev() {
-        block.untake(Kind::ITerm, terminals[index], index >= reused, moves);
+        drop(block.untake(Kind::ITerm, terminals[index], index >= reused, moves));
     }
 }
 
@@ -144,7 +144,7 @@ fn give_terms<L: Ledger>(block: &mut Block, terminals: &[u32], moves: &mut Steps
     ensures cap { block.new.cap ≡ block.old.cap }
 {
     for index in (0..terminals.len()).rev() {
-        block.give(Kind::ITerm, terminals[index], moves);
+        drop(block.give(Kind::ITerm, terminals[index], moves));
     }
 }
 

@@ -1,8 +1,11 @@
-use super::*;
 use odb_base::{Name, Orient, Worded};
 use std::alloc::Global;
 use std::process::Abort;
 use std::test::Fail;
+use wires::{
+    Element, Item, Items, NamedPaths, Path, PathFault, Taper, WireFault, decode, encode, lawful,
+    parse,
+};
 
 fn put_word(out: &mut Vec<u8>, word: &[u8]) -> Result<(), Fail> {
     if !out.is_empty() {
@@ -148,7 +151,7 @@ fn expect_fault(
 
 #[test]
 fn words_that_are_no_paths(rt: HostRuntime) {
-    let rows: [(&[u8], bool, Option<&[u8]>); 41] = [
+    let rows: [(&[u8], bool, Option<&[u8]>); 43] = [
         (b"", false, None),
         (b" ", false, None),
         (b"m", false, None),
@@ -181,6 +184,8 @@ fn words_that_are_no_paths(rt: HostRuntime) {
         (b"m ( 1 2.0 )", false, None),
         (b"m ( 1 - )", false, None),
         (b"m ( 1 2000000001 )", false, None),
+        (b"m ( 1 -2000000001 )", false, None),
+        (b"m 2000000001 ( 1 2 )", true, None),
         (b"m ( 1 99999999999999999999999999 )", false, None),
         (b"m ( 1 2 )", true, None),
         (b"m -1 ( 1 2 )", true, None),

@@ -1,8 +1,8 @@
-use super::*;
 use bitflags::Flags;
 use edit_words::Edit;
 use library::Master;
 use odb_base::Text;
+use script_words::{Command, command};
 use std::alloc::Global;
 use std::process::Abort;
 use std::str::from_utf8;

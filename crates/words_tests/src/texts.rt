@@ -1,7 +1,10 @@
 ghost use Rattle.std.specs.Prelude.{◌<◌};
 
-use super::*;
-use odb_outside::{Failed, MemorySource, Source};
+use ld_words::{
+    NumberFault, WordFault, Words, lines_are_counted, rounding_is_nearest, spaced_words_are_read,
+    to_units,
+};
+use odb_outside::{MemorySource, Source};
 use std::alloc::Global;
 use std::process::Abort;
 use std::test::Fail;
@@ -144,7 +147,7 @@ fn a_source_given_back(rt: HostRuntime) -> Result<(), Fail> {
 
 #[test]
 fn decimals_in_units(rt: HostRuntime) {
-    let rows: [(&[u8], u32, Result<i64, NumberFault>); 31] = [
+    let rows: [(&[u8], u32, Result<i64, NumberFault>); 35] = [
         (b"0.0005", 1000, Ok(1)),
         (b"-0.0005", 1000, Ok(-1)),
         (b"0.0004", 1000, Ok(0)),
@@ -170,6 +173,10 @@ fn decimals_in_units(rt: HostRuntime) {
         (b"7", 0, Ok(0)),
         (b"2000000", 1000, Ok(2_000_000_000)),
         (b"-2000000", 1000, Ok(-2_000_000_000)),
+        (b"2000000000", 1, Ok(2_000_000_000)),
+        (b"2000000001", 1, Err(NumberFault::OutOfRange)),
+        (b"-2000000000", 1, Ok(-2_000_000_000)),
+        (b"-2000000001", 1, Err(NumberFault::OutOfRange)),
         (b"2000000.0004", 1000, Ok(2_000_000_000)),
         (b"2000000.001", 1000, Err(NumberFault::OutOfRange)),
         (b"-2000000.0005", 1000, Err(NumberFault::OutOfRange)),

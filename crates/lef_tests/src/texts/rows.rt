@@ -1,6 +1,6 @@
 //! Texts and what is read of them.
 
-use crate::LefKind;
+use lef_reader::LefKind;
 
 /// What is read of a text.
 #[derive(Clone, Copy)]
@@ -17,7 +17,7 @@ pub struct Row {
     pub read: Read,
 }
 
-pub const ROWS: [Row; 52] = [
+pub const ROWS: [Row; 57] = [
     // Units and layers.
     Row {
         text: b"",
@@ -38,6 +38,10 @@ pub const ROWS: [Row; 52] = [
     Row {
         text: b"UNITS DATABASE MICRONS ; DATABASE NANOS 5 ; END UNITS",
         read: Read::Tree("", 2),
+    },
+    Row {
+        text: b"UNITS DATABASE MICRONS 100000 ; END UNITS",
+        read: Read::Tree("units 100000 /", 0),
     },
     Row {
         text: b"LAYER m1 TYPE ROUTING ; DIRECTION HORIZONTAL ; PITCH 0.46 ; WIDTH 0.14 ; SPACING 0.2 ; END m1",
@@ -79,6 +83,13 @@ pub const ROWS: [Row; 52] = [
     Row {
         text: b"VIA v TOPOFSTACKONLY DEFAULT ; END v VIA END END END VIA DEFAULT END DEFAULT",
         read: Read::Tree("via v /via END /via DEFAULT /", 1),
+    },
+    Row {
+        text: b"VIA ; VIA n LAYER N ; RECT 0 0 1 1 ; END n LAYER N END N SITE FS END FS MACRO S PIN W END W END S",
+        read: Read::Tree(
+            "via n N 0 0 1 1 /layer N 0 0 - - - - /site FS 1 0 - - /macro S  - - - - 0 -  pin W 0 0 obs /",
+            1,
+        ),
     },
     Row {
         text: b"SITE core CLASS CORE ; SYMMETRY Y ; SYMMETRY R90 X X ; SIZE 0.46 BY 2.72 ; END core",
@@ -211,6 +222,18 @@ pub const ROWS: [Row; 52] = [
     },
     Row {
         text: b"LAYER\na*b TYPE",
+        read: Read::Fault(2, LefKind::BadName),
+    },
+    Row {
+        text: b"VIA N END N",
+        read: Read::Fault(1, LefKind::BadName),
+    },
+    Row {
+        text: b"VIA\nFE DEFAULT",
+        read: Read::Fault(2, LefKind::BadName),
+    },
+    Row {
+        text: b"VIA\na*b",
         read: Read::Fault(2, LefKind::BadName),
     },
     Row {

@@ -1,6 +1,6 @@
 //! A tree as one line of words, so that tables of texts can state it.
 
-use crate::{LefItem, LefLayer, LefMacro, LefPin, LefShape, LefSite, LefTree, LefVia};
+use lef_tree::{LefItem, LefLayer, LefMacro, LefPin, LefShape, LefSite, LefTree, LefVia};
 use odb_base::{Coded, Name, Text};
 use std::alloc::{AllocError, Global};
 

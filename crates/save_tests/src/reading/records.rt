@@ -1,12 +1,12 @@
 //! The records of the kinds that are still to come, each by itself.
 
 use super::Stream;
-use crate::fault::ReadFault;
-use crate::lists::Spelled;
 use block_records::{BlockageRec, PinRec, PropRec, TrackRec, WireRec};
 use block_store::{GroupEntry, RegionEntry, RowEntry};
 use odb_base::{Coded, LayerId, Rect, Shape};
 use odb_fields::Get;
+use saved_reader::ReadFault;
+use saved_reader::lists::Spelled;
 use std::alloc::{AllocError, Global};
 use std::process::Abort;
 use std::test::Fail;

@@ -1,7 +1,7 @@
 use Rattle.std.proofs.Common.{◌≡◌, ◌∙◌, true, sym}
 use Rattle.slot_pool.specs.Table.{is_live}
 use Rattle.block_store.specs.Alone.{OfInst}
-use Rattle.block_store.proofs.tests.can_enter.Goals as goal
+use Rattle.block_tests.proofs.blocks.can_enter.Goals as goal
 
 pub returns-then-live-2 : goal.returns-then-live-2
 returns-then-live-2 c =

@@ -1,7 +1,7 @@
 use Rattle.std.proofs.Common.{◌≡◌, None}
 use Rattle.block_store.specs.Names.{find_in}
 use Rattle.block_store.proofs.Naming.{free_names_are_not_found}
-use Rattle.block_store.proofs.tests.is_free.Goals as goal
+use Rattle.block_tests.proofs.blocks.is_free.Goals as goal
 
 pub returns-in-None-clause-free : goal.returns-in-None-clause-free
 returns-in-None-clause-free c =

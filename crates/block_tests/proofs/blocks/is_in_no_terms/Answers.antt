@@ -4,7 +4,7 @@ use Rattle.std.proofs.lemmas.List.{get_or_past}
 use Rattle.slot_pool.specs.Table.{Table, record_at}
 use Rattle.odb_base.specs.Ids.{holds}
 use Rattle.block_store.specs.Lists.{list_in}
-use Rattle.block_store.proofs.tests.is_in_no_terms.Goals as goal
+use Rattle.block_tests.proofs.blocks.is_in_no_terms.Goals as goal
 
 past : {A : Type 0} (t : Table A) (id : ℕ) → length t.slots < id → record_at t id ≡ None
 past t id behind =

@@ -15,7 +15,7 @@ returns-clause-text g c =
 
 pub returns-clause-ready : goal.returns-clause-ready
 returns-clause-ready g c =
-    rw c.outcome.ensures (ready_on (IsTrue (g.S.Source.ready c.into_source.result)) (fault_of c.read_lef-answer.new.words) c.read_lef-answer.result c.read_lef-answer.ensures.kept c.into_source.ensures.ready)
+    rw c.outcome.ensures (ready_on (IsTrue (g.S.Source.ready c.into_source.result)) (fault_of c.in_room-words.result) (fault_of c.read_lef-answer.new.words) c.read_lef-answer.result c.read_lef-answer.ensures.kept c.into_source.ensures.ready)
 
 pub returns-clause-cause : goal.returns-clause-cause
 returns-clause-cause g c =

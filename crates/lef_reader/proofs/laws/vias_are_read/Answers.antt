@@ -1,5 +1,5 @@
-use Rattle.lef_reader.proofs.SpelledMacros.{vias-read}
+use Rattle.lef_reader.proofs.SpelledMacros.{orientations-name-none, vias-read}
 use Rattle.lef_reader.proofs.laws.vias_are_read.Goals as goal
 
 pub returns : goal.returns
-returns c = vias-read
+returns c = record { vias = vias-read; orientations = orientations-name-none }
