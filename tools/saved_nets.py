@@ -30,4 +30,5 @@ def saved(count):
     return b"".join(out)
 
 
-sys.stdout.buffer.write(saved(int(sys.argv[1])))
+if __name__ == "__main__":
+    sys.stdout.buffer.write(saved(int(sys.argv[1])))

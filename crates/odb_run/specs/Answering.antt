@@ -27,6 +27,7 @@ pub record Machine : Type 0 where
   pub state : State
   pub files : List File
 
+-- the machine in this state, with these files
 abbrev pub machine : State → List File → Machine
 machine s files = record { state = s; files = files }
 
@@ -68,7 +69,7 @@ abbrev pub IsLoadUnless : Bool → Machine → List ℕ → Answered → Type 0
 IsLoadUnless true m bytes a = a ≡ denied m long_file_text
 IsLoadUnless false m bytes a = IsLoadOf m bytes a
 
--- and of a file that may not be there
+-- what `load` answers by the bytes of its file, which may not be there or may be too long
 abbrev pub IsLoadFrom : Machine → Option (List ℕ) → Answered → Type 0
 IsLoadFrom m None a = a ≡ denied m no_file_text
 IsLoadFrom m (Some bytes) a = IsLoadUnless (nat_lt 4294967295 (length bytes)) m bytes a
@@ -90,6 +91,7 @@ lef_answer m (lef_read.Tree tree) = built_answer m (built_of m.state.database.te
 lef_answer m lef_read.NoFile = denied m no_file_text
 lef_answer m (lef_read.Refused line kind) = denied m (lef_text line kind)
 
+-- the answer by the bytes of the LEF file, which may not be there
 abbrev pub lef_file_answer : Machine → Option (List ℕ) → Answered
 lef_file_answer m None = lef_answer m lef_read.NoFile
 lef_file_answer m (Some bytes) = lef_answer m (lef_file_of bytes)
@@ -99,6 +101,7 @@ abbrev pub read_lef_answer : Machine → List ℕ → Option Kept → Answered
 read_lef_answer m file None = lef_file_answer m (file_of file m.files)
 read_lef_answer m file (Some kept) = denied m (wrong_state_text state.Open)
 
+-- the machine answers a command so
 abbrev pub IsCommandAnswer : Machine → Command → Answered → Type 0
 IsCommandAnswer m (command.Edit edit) a = a ≡ in_state m (edit_answer m.state edit)
 IsCommandAnswer m (command.Units n) a = a ≡ in_state m (part_answer m.state (part.Units n) m.state.eco)
@@ -130,6 +133,7 @@ NamesFile (Ok (Some command)) = TouchesFile command
 NamesFile (Ok None) = ⊥
 NamesFile (Err fault) = ⊥
 
+-- the machine answers so to what a line asks for: nothing, a command, or what is no command
 abbrev pub IsRequestAnswer : Machine → Request → Answered → Type 0
 IsRequestAnswer m (Ok None) a = a ≡ in_state m (unanswered m.state)
 IsRequestAnswer m (Ok (Some command)) a = IsCommandAnswer m command a

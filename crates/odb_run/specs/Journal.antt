@@ -33,6 +33,7 @@ steps_of entries = map (λ e. e.step) entries
 abbrev pub kept_of : Database → List Entry → Kept
 kept_of d entries = record { copy = record d { block = undone entries d.block }; steps = steps_of entries }
 
+-- what the machine keeps where the session has this journal, if it has one
 abbrev pub eco_of : Database → Option Noted → Option Kept
 eco_of d None = None
 eco_of d (Some journal) = Some (kept_of d journal.entries)

@@ -33,6 +33,7 @@ pub record State : Type 0 where
 unfoldable pub start : ℕ → State
 start cap = record { database = empty_database cap; eco = None }
 
+-- the ECO state: whether an ECO stands
 abbrev pub eco_state : Option Kept → EcoState
 eco_state None = state.None
 eco_state (Some kept) = state.Open
@@ -44,6 +45,7 @@ pub record Answer : Type 0 where
   pub text : List ℕ
   pub refused : Bool
 
+-- what was asked for is done: the state after it, and the text of the reply
 abbrev pub accepted : State → List ℕ → Answer
 accepted s text = record { state = s; text = text; refused = false }
 
@@ -71,6 +73,7 @@ after_steps steps d = record d { block = do_all d.library steps d.block }
 abbrev pub after_edit : List Step → State → State
 after_edit steps s = record { database = after_steps steps s.database; eco = option_map (noted steps) s.eco }
 
+-- the answer by the plan of an edit: its steps are done, or it is refused
 abbrev pub edit_answer_by : State → Result (List Step) Refusal → Answer
 edit_answer_by s (Ok steps) = accepted (after_edit steps s) (outcome_text (lone_outcome (made steps)))
 edit_answer_by s (Err why) = refused s (refusal_text why)
@@ -97,6 +100,7 @@ unfoldable pub part_answer : State → TechPart → Option Kept → Answer
 part_answer s p None = parts_answer s (entered_text p) (with_parts 0 (p ∷ []) s.database)
 part_answer s p (Some kept) = refused s (wrong_state_text state.Open)
 
+-- the answer by the report on a query, which leaves the state as it was
 abbrev pub report_answer_by : State → Result (List ℕ) ReportFault → Answer
 report_answer_by s (Ok text) = accepted s text
 report_answer_by s (Err fault) = refused s (report_fault_text fault)

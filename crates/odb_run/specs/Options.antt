@@ -9,6 +9,7 @@ slots_from None = None
 slots_from (Some (pos n)) = if nat_le 1 n && nat_le n 16777215 then Some n else None
 slots_from (Some (negsuc n)) = None
 
+-- the greatest number of slots that two words of the command line give, of which the first is `--slots`
 abbrev pub slots_after : List ℕ → List ℕ → Option ℕ
 slots_after name word = if bytes_eq name (codes "--slots") then slots_from (number_named word) else None
 

@@ -39,11 +39,11 @@ outcome_text o = codes "ok" ++ value o.id ++ value o.accepted ++ value o.refused
 unfoldable pub saved_text : List ℕ → List ℕ
 saved_text bytes = codes "ok" ++ value (length bytes) ++ codes " " ++ encode_lower bytes ++ line_end
 
--- of an object that isn't there
+-- the refusal of an object that isn't there
 unfoldable pub not_live_text : Kind → ℕ → List ℕ
 not_live_text k id = codes "refused 2 NotLive" ++ spaced (kind_word k) ++ value id ++ line_end
 
--- of an edit that its plan refuses; for want of memory there is no reply
+-- the refusal of an edit that its plan refuses; for want of memory there is no reply
 unfoldable pub refusal_text : Refusal → List ℕ
 refusal_text (refusal.NotLive k id) = not_live_text k id
 refusal_text (refusal.BadValue place) = codes "refused 3 BadValue" ++ value place ++ line_end
@@ -57,21 +57,21 @@ refusal_text refusal.Special = codes "refused 13 Special" ++ line_end
 refusal_text (refusal.TableFull k) = codes "refused 15 TableFull" ++ spaced (kind_word k) ++ line_end
 refusal_text refusal.Memory = []
 
--- of a line that is no command; for want of memory there is no reply
+-- the refusal of a line that is no command; for want of memory there is no reply
 unfoldable pub fault_text : LineFault → List ℕ
 fault_text fault.UnknownCommand = codes "refused 21 UnknownCommand" ++ line_end
 fault_text fault.BadWords = codes "refused 22 BadWords" ++ line_end
 fault_text fault.Memory = []
 
--- of a line that is too long
+-- the refusal of a line that is too long
 unfoldable pub long_line_text : List ℕ
 long_line_text = codes "refused 23 LongLine" ++ line_end
 
--- of a command that the ECO state doesn't allow
+-- the refusal of a command that the ECO state doesn't allow
 unfoldable pub wrong_state_text : EcoState → List ℕ
 wrong_state_text state = codes "refused 24 WrongState" ++ spaced (eco_state_word state) ++ line_end
 
--- of parts that aren't entered; for want of memory there is no reply
+-- the refusal of parts that aren't entered; for want of memory there is no reply
 unfoldable pub part_text : PartFault → List ℕ
 part_text (part.UnitsChanged had got) = codes "refused 28 LefBuild UnitsChanged" ++ value had ++ value got ++ line_end
 part_text (part.NameTaken place) = codes "refused 28 LefBuild NameTaken" ++ value place ++ line_end
@@ -89,11 +89,11 @@ lef_kind_word lef.OpenQuote = codes "OpenQuote"
 lef_kind_word lef.LongWord = codes "LongWord"
 lef_kind_word lef.TooLong = codes "TooLong"
 
--- of a LEF text with which this is wrong on this line
+-- the refusal of a LEF text with which this is wrong on this line
 unfoldable pub lef_text : ℕ → LefFileFault → List ℕ
 lef_text line kind = codes "refused 27 LefText" ++ value line ++ spaced (lef_kind_word kind) ++ line_end
 
--- of a LEF text that has no parts; for want of memory there is no reply
+-- the refusal of a LEF text that has no parts; for want of memory there is no reply
 unfoldable pub build_text : BuildFault → List ℕ
 build_text build.NoUnits = codes "refused 28 LefBuild NoUnits" ++ line_end
 build_text (build.UnitsChanged had got) = part_text (part.UnitsChanged had got)
@@ -106,16 +106,16 @@ build_text build.Memory = []
 unfoldable pub added_text : ℕ → Added → List ℕ
 added_text passed a = codes "ok" ++ value a.layers ++ value a.vias ++ value a.sites ++ value a.masters ++ value passed ++ line_end
 
--- of a query of an object that isn't there; for want of memory there is no reply
+-- the refusal of a query of an object that isn't there; for want of memory there is no reply
 unfoldable pub report_fault_text : ReportFault → List ℕ
 report_fault_text (report.NotLive k id) = not_live_text k id
 report_fault_text report.Memory = []
 
--- of a file that isn't there
+-- the refusal of a file that isn't there
 unfoldable pub no_file_text : List ℕ
 no_file_text = codes "refused 25 NoFile" ++ line_end
 
--- of bytes that spell no sound database; for want of memory there is no reply
+-- the refusal of bytes that spell no sound database; for want of memory there is no reply
 unfoldable pub load_fault_text : LoadFault → List ℕ
 load_fault_text load.NotSaved = codes "refused 34 SavedText NotSaved" ++ line_end
 load_fault_text (load.Version got) = codes "refused 34 SavedText Version" ++ value got ++ line_end
@@ -127,6 +127,6 @@ load_fault_text (load.Unsound None id) = codes "refused 34 SavedText Unsound hea
 load_fault_text (load.Unsound (Some k) id) = codes "refused 34 SavedText Unsound" ++ spaced (kind_word k) ++ value id ++ line_end
 load_fault_text load.Memory = []
 
--- of a file with more bytes than one that is read may have
+-- the refusal of a file with more bytes than one that is read may have
 unfoldable pub long_file_text : List ℕ
 long_file_text = codes "refused 36 FileTooLong" ++ line_end

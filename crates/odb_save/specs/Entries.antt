@@ -11,9 +11,11 @@ use Rattle.block_store.specs.declared.list_of.ListOf.TheVariants as list
 use Rattle.block_store.specs.Block.{Block}
 use Rattle.block_store.specs.Lists.{list_at}
 
+-- the entry of an instance, with its properties
 abbrev pub inst_entry : ℕ → InstRec → Block → InstEntry
 inst_entry id r b = record { fields = r; props = list_at (list.Props kind.Inst id) b }
 
+-- the entry of a net, with its terminals, wires and properties
 abbrev pub net_entry : ℕ → NetRec → Block → NetEntry
 net_entry id r b = record {
   fields = r;
@@ -22,5 +24,6 @@ net_entry id r b = record {
   props = list_at (list.Props kind.Net id) b;
 }
 
+-- the entry of a block terminal, with its pins
 abbrev pub bterm_entry : ℕ → BTermRec → Block → BTermEntry
 bterm_entry id r b = record { fields = r; pins = list_at (list.Pins (record { 0 = id })) b }

@@ -40,16 +40,17 @@ lone_net = record {
   props = [];
 }
 
+-- a database with nothing but the net `a`
 abbrev pub one_net : ℕ → Database
 one_net cap =
     let empty : Database = empty_database cap in
     record empty { block = record empty.block { net = record { slots = Some lone_net ∷ []; free = [] } } }
 
+-- the saved bytes of that net alone: one slot of nets, with this name, and nothing else
 unfoldable pub one_net_saved : List ℕ
 one_net_saved = new_front ++ zeros 25 ++ small 1 ++ 1 ∷ small 1 ++ codes "a" ++ zeros 98
 
--- A master with a terminal, an instance of it, and a net that joins the instance's terminal and one of the block,
--- where two more nets were and are gone.
+-- a master `M` with one terminal
 abbrev pub gate : Master
 gate = record {
   name = codes "M";
@@ -65,6 +66,7 @@ gate = record {
   obstructions = [];
 }
 
+-- an instance of the master
 abbrev pub placed_inst : InstEntry
 placed_inst = record {
   fields = record {
@@ -78,9 +80,11 @@ placed_inst = record {
   props = [];
 }
 
+-- the instance's terminal, which the net joins
 abbrev pub joined_iterm : ITermRec
 joined_iterm = record { inst = 1; index = 0; net = 1 }
 
+-- a net that joins the terminal of the block and that of the instance
 abbrev pub joining_net : NetEntry
 joining_net = record {
   fields = record { name = codes "n"; usage = usage.Clock; special = true; kept = []; special_kept = [] };
@@ -89,12 +93,15 @@ joining_net = record {
   props = [];
 }
 
+-- a terminal of the block, which the net joins
 abbrev pub joined_bterm : BTermEntry
 joined_bterm = record {
   fields = record { name = codes "p"; net = 1; direction = direction.Output; usage = usage.None; kept = [] };
   pins = [];
 }
 
+-- A database with the master, its instance, and a net that joins the instance's terminal and one of the block,
+-- where two more nets were and are gone.
 abbrev pub one_gate : ℕ → Database
 one_gate cap = record {
   tech = with_units 1000 empty_technology;
@@ -133,6 +140,7 @@ nets_saved = small 3 ++ 1 ∷ small 1 ++ codes "n" ++ 5 ∷ 1 ∷ small 2 ++ 4 �
 abbrev pub bterms_saved : List ℕ
 bterms_saved = small 1 ++ 1 ∷ small 1 ++ codes "p" ++ small 1 ++ 2 ∷ 0 ∷ zeros 8 ++ zeros 4
 
+-- the saved bytes of that master and its instance: units, master, header, four tables, and eight empty ones
 unfoldable pub one_gate_saved : List ℕ
 one_gate_saved =
     codes "ODBS" ++ small 1 ++ 232 ∷ 3 ∷ zeros 14 ++ small 1 ++ gate_saved

@@ -11,6 +11,7 @@ use Rattle.block_store.specs.declared.entry.BTermEntry.{BTermEntry}
 abbrev pub IsShort : {A : Type 0} → List A → Type 0
 IsShort xs = length xs < 2 ^ 32
 
+-- the class, the foreign words and each list of a master fit the counts
 pub record FitsMaster (m : Master) : Type 0 where
   pub class : IsShort m.class
   pub foreign : IsShort m.foreign
@@ -18,11 +19,13 @@ pub record FitsMaster (m : Master) : Type 0 where
   pub shapes : AreAll (λ (t : MTerm). IsShort t.shapes) m.terminals
   pub obstructions : IsShort m.obstructions
 
+-- the terminals, the properties and the kept words of an instance fit the counts
 pub record FitsInst (e : InstEntry) : Type 0 where
   pub terminals : IsShort e.fields.terminals
   pub props : IsShort e.props
   pub kept : IsShort e.fields.kept
 
+-- each list of a net and its kept words fit the counts
 pub record FitsNet (e : NetEntry) : Type 0 where
   pub terms : IsShort e.terms
   pub wires : IsShort e.wires
@@ -30,6 +33,7 @@ pub record FitsNet (e : NetEntry) : Type 0 where
   pub kept : IsShort e.fields.kept
   pub special_kept : IsShort e.fields.special_kept
 
+-- the pins and the kept words of a block terminal fit the counts
 pub record FitsBTerm (e : BTermEntry) : Type 0 where
   pub pins : IsShort e.pins
   pub kept : IsShort e.fields.kept
