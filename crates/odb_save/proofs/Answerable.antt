@@ -78,13 +78,13 @@ module _ (library : List Master) (cap : ℕ) (b : Block) where
     | inl some ↦ inr (
       first.0,
       record {
-        table = λ zero. absurd (omega (arith, some, zero));
+        table = λ none. absurd (omega (arith, some, none));
         sound_table = λ from. table;
         this = λ from. first.1.this;
         before = first.1.before;
       },
     )
-    | inr zero ↦ absurd (first.1.this (at_zero library b k first.0 zero))
+    | inr none ↦ absurd (first.1.this (at_zero library b k first.0 none))
   ]
 
   of_table : (k : Kind) → (IsSoundTable cap b k ⊎ (¬ (IsSoundTable cap b k))) → Surely (IsSoundKind library cap b k ⊎ ((id : ℕ) × IsFirstFault library cap b k id))
@@ -92,7 +92,7 @@ module _ (library : List Master) (cap : ℕ) (b : Block) where
   of_table k (inr not) = surely (inr (
     0,
     record {
-      table = λ zero. not;
+      table = λ none. not;
       sound_table = λ from. absurd (omega (arith, from));
       this = λ from. absurd (omega (arith, from));
       before = λ lesser below. absurd (omega (arith, below));

@@ -72,10 +72,10 @@ module _ {A B : Type 0} where
   made_is value reading is = record { at = λ input. then-reads (reading input) _ (is.at input) (λ p. tt) }
 
   by_is : (first : Reading A) (next : A → Reading B) → IsOfInput first → ((x : A) → IsOfInput (next x)) → IsOfInput (first by next)
-  by_is first next is then = record { at = λ input. then-reads (first input) _ (is.at input) (λ p. (then p.0).at p.1) }
+  by_is first next is rest = record { at = λ input. then-reads (first input) _ (is.at input) (λ p. (rest p.0).at p.1) }
 
   then_is : (first : Reading A) (next : A → Reading B) → IsOfInput first → ((x : A) → IsOfInput (next x)) → IsOfInput (first then next)
-  then_is first next is then = record { at = λ input. then-reads (first input) _ (is.at input) (λ p. then-reads (next p.0 p.1) _ ((then p.0).at p.1) (λ q. tt)) }
+  then_is first next is rest = record { at = λ input. then-reads (first input) _ (is.at input) (λ p. then-reads (next p.0 p.1) _ ((rest p.0).at p.1) (λ q. tt)) }
 
   and_is : (first : Reading A) (second : Reading B) → IsOfInput first → IsOfInput second → IsOfInput (first & second)
   and_is first second is also = record { at = λ input. then-reads (first input) _ (is.at input) (λ p. then-reads (second p.1) _ (also.at p.1) (λ q. tt)) }
