@@ -1,8 +1,11 @@
 pub mod Accepting
 pub mod Answering
 pub mod Determined
+pub mod Existing
 pub mod JournalLemmas
+pub mod Kept
 pub mod LineLemmas
 pub mod ReplyTexts
 pub mod Runs
 pub mod Scripts
+pub mod Stopping

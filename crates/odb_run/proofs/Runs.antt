@@ -1,5 +1,5 @@
 -- How a run goes on.
-use Rattle.std.proofs.Common.{◌≡◌, ◌≢◌, ◌+◌, ◌-◌, ◌≤◌, ◌||◌, Bool, true, false, List, [], ◌∷◌, ◌++◌, ℕ, Option, None, Some, Result, Ok, Err, OnErr, length, take, drop, length-drop, eqb, subst, refl, sym, ap, ◌∙◌, arith, append_assoc, append-nil, length-append}
+use Rattle.std.proofs.Common.{◌≡◌, ◌≢◌, ◌+◌, ◌-◌, ◌≤◌, ◌||◌, Bool, true, false, List, [], ◌∷◌, ◌++◌, ℕ, Option, None, Some, length, take, drop, length-drop, eqb, subst, refl, sym, ap, ◌∙◌, arith, append_assoc, append-nil, length-append}
 use Rattle.std.proofs.Math.Bool.{or_assoc}
 use Rattle.std.proofs.Math.Seq.{take-append-add, take-append_seam, take-length}
 use Rattle.std.proofs.lemmas.List.Folds.{list_any-append}
@@ -8,9 +8,9 @@ use Rattle.odb_outside.specs.Files.{File}
 use Rattle.odb_outside.specs.Writing.{Grows, GrowsByPrefix}
 use Rattle.odb_run.proofs.Answering.{after-append, answers-append, refusal-append, replies-append}
 use Rattle.odb_run.proofs.LineLemmas.{lines-first, lines-last}
-use Rattle.odb_run.specs.Answering.{IsAnswer, has_refusal, machine_after, replies_of}
+use Rattle.odb_run.specs.Answering.{Answered, IsAnswer, has_refusal, machine_after, replies_of}
 use Rattle.odb_run.specs.Lines.{has_line_end, lines_of}
-use Rattle.odb_run.specs.Running.{GivesTold, Goes, IsFinished, IsGone, IsLast, IsPart, IsReplied, Leads, Replied, Running, WritesOn, WritesSome, machine_of}
+use Rattle.odb_run.specs.Running.{GivesTold, Goes, IsFinished, IsGone, IsLast, IsReplied, Leads, Replied, Running, WritesOn, machine_of}
 use Rattle.odb_run.specs.Told.{IfTold, WhereTold}
 
 -- nothing was written
@@ -90,10 +90,12 @@ leads_more (Some before) (Some now) x y more led = record {
 pub rest-is : (bytes : List ℕ) (place : ℕ) → take (length bytes - place) (drop place bytes) ≡ drop place bytes
 rest-is bytes place = ap (λ n. take n (drop place bytes)) (sym (length-drop place bytes)) ∙ take-length (drop place bytes)
 
--- a fact holds after a fault where it holds anyway
-pub on_err : {T E P : Type 0} (result : Result T E) → P → OnErr result P
-on_err (Ok x) p = tt
-on_err (Err e) p = p
+-- an unfinished line, the bytes that end it, and the rest
+pub ended_first : (line bytes rest : List ℕ) → has_line_end line ≡ false → has_line_end bytes ≡ false → lines_of (line ++ ((bytes ++ 10 ∷ []) ++ rest)) ≡ (line ++ bytes) ∷ lines_of rest
+ended_first line bytes rest whole_line whole =
+    ap (λ (l : List ℕ). lines_of (line ++ l)) (append_assoc bytes (10 ∷ []) rest)
+    ∙ ap lines_of (sym (append_assoc line bytes (10 ∷ rest)))
+    ∙ lines-first (line ++ bytes) rest (list_any-append (λ (b : ℕ). eqb b 10) line bytes ∙ rw (whole_line, whole) refl)
 
 or-false : (b : Bool) → (b || false) ≡ b
 or-false true = refl
@@ -127,10 +129,6 @@ pub told_same : (P : List File → List File → Type 0) (was : Option (List Fil
 told_same P None f = tt
 told_same P (Some was) f = f was
 
-pub told_all : (P : List File → Type 0) (was : Option (List File)) → ((a : List File) → P a) → IfTold was P
-told_all P None f = tt
-told_all P (Some was) f = f was
-
 -- ---- between two lines
 
 -- a run that didn't go on
@@ -145,55 +143,66 @@ gone_none a run files bytes = record {
   refused = sym (or-false run.refused);
 }
 
--- a run went on twice
-pub gone_then : (a b c : Option (List ℕ)) (old mid new : Running) (was is left : List File) (taken more rest : List ℕ) → IsGone a b old was mid is taken [] → IsGone b c mid is new left more rest → IsGone a c old was new left (taken ++ more) rest
-gone_then a b c old mid new was is left taken more rest first then = record {
+-- the replies to more lines come behind those so far
+pub more_led : (a b : Option (List ℕ)) (before unwritten : List ℕ) (answers more : List Answered) → Leads a b (before ++ replies_of answers) unwritten → Leads a b (before ++ replies_of (answers ++ more)) (unwritten ++ replies_of more)
+more_led a b before unwritten answers more led =
+    subst (λ (x : List ℕ). Leads a b x (unwritten ++ replies_of more)) (append_assoc before (replies_of answers) (replies_of more) ∙ ap (λ (x : List ℕ). before ++ x) (sym (replies-append answers more)))
+    (leads_more a b (before ++ replies_of answers) unwritten (replies_of more) led)
+
+-- what stands behind may be left
+gone_past : (a b : Option (List ℕ)) (old new : Running) (was is : List File) (front behind : List ℕ) → IsGone a b old was new is front [] → IsGone a b old was new is (front ++ behind) behind
+gone_past a b old new was is front behind gone = record {
+  lines = gone.lines;
+  script = λ rest. ap (λ (all : List ℕ). lines_of (old.line ++ all)) (append_assoc front behind rest) ∙ gone.script (behind ++ rest);
+  answers = gone.answers;
+  answered = gone.answered;
+  machine = gone.machine;
+  replies = gone.replies;
+  refused = gone.refused;
+}
+
+-- A run went on from one point to a second, and from there to a third. The lines that ended are those of both ways.
+gone_on : (a b c : Option (List ℕ)) (old mid new : Running) (was is left : List File) (taken rest more behind all : List ℕ) (first : IsGone a b old was mid is taken rest) (then : IsGone b c mid is new left more behind)
+    → ((after : List ℕ) → lines_of (old.line ++ (all ++ after)) ≡ first.lines ++ (then.lines ++ lines_of (new.line ++ (behind ++ after)))) → IsGone a c old was new left all behind
+gone_on a b c old mid new was is left taken rest more behind all first then script = record {
   lines = first.lines ++ then.lines;
-  script = λ behind.
-      ap (λ (all : List ℕ). lines_of (old.line ++ all)) (append_assoc taken more behind)
-      ∙ first.script (more ++ behind)
-      ∙ ap (λ (all : List (List ℕ)). first.lines ++ all) (then.script behind)
-      ∙ sym (append_assoc first.lines then.lines (lines_of (new.line ++ (rest ++ behind))));
+  script = λ after. script after ∙ sym (append_assoc first.lines then.lines (lines_of (new.line ++ (behind ++ after))));
   answers = first.answers ++ then.answers;
   answered = answers-append (machine_of old was) first.lines then.lines first.answers then.answers first.answered (rw first.machine at then.answered);
   machine = then.machine ∙ ap (λ m. machine_after m then.answers) first.machine ∙ sym (after-append (machine_of old was) first.answers then.answers);
-  replies = leads_on a b c _ _ _ (regrouped (leads_more a b _ _ (replies_of then.answers) first.replies)) then.replies;
+  replies = leads_on a b c _ _ _ (more_led a b old.unwritten mid.unwritten first.answers then.answers first.replies) then.replies;
   refused = then.refused ∙ ap (λ (r : Bool). r || has_refusal then.answers) first.refused ∙ or_assoc old.refused (has_refusal first.answers) (has_refusal then.answers) ∙ ap (λ (r : Bool). old.refused || r) (sym (refusal-append first.answers then.answers));
-} where
-  regrouped : Leads a b ((old.unwritten ++ replies_of first.answers) ++ replies_of then.answers) (mid.unwritten ++ replies_of then.answers) → Leads a b (old.unwritten ++ replies_of (first.answers ++ then.answers)) (mid.unwritten ++ replies_of then.answers)
-  regrouped led = subst (λ (x : List ℕ). Leads a b x (mid.unwritten ++ replies_of then.answers)) (append_assoc old.unwritten (replies_of first.answers) (replies_of then.answers) ∙ ap (λ (x : List ℕ). old.unwritten ++ x) (sym (replies-append first.answers then.answers))) led
+}
+
+-- a run went on twice
+pub gone_then : (a b c : Option (List ℕ)) (old mid new : Running) (was is left : List File) (taken more rest : List ℕ) → IsGone a b old was mid is taken [] → IsGone b c mid is new left more rest → IsGone a c old was new left (taken ++ more) rest
+gone_then a b c old mid new was is left taken more rest first then =
+    gone_on a b c old mid new was is left taken [] more rest (taken ++ more) first then
+    (λ after.
+    ap (λ (all : List ℕ). lines_of (old.line ++ all)) (append_assoc taken more after)
+    ∙ first.script (more ++ after)
+    ∙ ap (λ (all : List (List ℕ)). first.lines ++ all) (then.script after))
+
+-- a run went on over the front of what was left
+pub gone_front : (a b c : Option (List ℕ)) (old mid new : Running) (was is left : List File) (taken front behind : List ℕ) → IsGone a b old was mid is taken (front ++ behind) → IsGone b c mid is new left front [] → IsGone a c old was new left taken behind
+gone_front a b c old mid new was is left taken front behind first then =
+    let went : IsGone b c mid is new left (front ++ behind) behind = gone_past b c mid new is left front behind then in
+    gone_on a b c old mid new was is left taken (front ++ behind) (front ++ behind) behind taken first went
+    (λ after. first.script after ∙ ap (λ (all : List (List ℕ)). first.lines ++ all) (went.script after))
 
 -- a line was answered, and the replies so far were written or kept
-pub gone_line : (a b c : Option (List ℕ)) (old mid next new : Running) (was is left : List File) (taken rest line behind : List ℕ) → rest ≡ line ++ 10 ∷ behind → has_line_end mid.line ≡ false → has_line_end line ≡ false → IsReplied mid is (mid.line ++ line) next left → WritesOn b c next new → IsGone a b old was mid is taken rest → IsGone a c old was new left taken behind
-gone_line a b c old mid next new was is left taken rest line behind parts whole_line whole replied writes gone = record {
-  lines = gone.lines ++ (mid.line ++ line) ∷ [];
-  script = λ more.
-      gone.script more
-      ∙ ap (λ (all : List (List ℕ)). gone.lines ++ all) (ap lines_of (ap (λ (l : List ℕ). mid.line ++ (l ++ more)) parts ∙ ap (λ (l : List ℕ). mid.line ++ l) (append_assoc line (10 ∷ behind) more) ∙ sym (append_assoc mid.line line (10 ∷ (behind ++ more)))) ∙ lines-first (mid.line ++ line) (behind ++ more) both)
-      ∙ sym (append_assoc gone.lines ((mid.line ++ line) ∷ []) (lines_of (behind ++ more)))
-      ∙ ap (λ (l : List ℕ). (gone.lines ++ (mid.line ++ line) ∷ []) ++ lines_of (l ++ (behind ++ more))) (sym empty);
-  answers = gone.answers ++ replied.answer ∷ [];
-  answered = answers-append (machine_of old was) gone.lines ((mid.line ++ line) ∷ []) gone.answers (replied.answer ∷ []) gone.answered (rw gone.machine at replied.answered, tt);
-  machine = ap (λ (r : Running). machine_of r left) writes.others ∙ replied.machine ∙ sym (after-append (machine_of old was) gone.answers (replied.answer ∷ []));
-  replies = leads_on a b c _ _ _ led writes.replies;
-  refused = ap (λ (r : Running). r.refused) writes.others ∙ replied.refused ∙ ap (λ (r : Bool). r || replied.answer.refused) gone.refused ∙ or_assoc old.refused (has_refusal gone.answers) replied.answer.refused ∙ ap (λ (r : Bool). old.refused || r) (sym one-refused);
+pub gone_line : (a b : Option (List ℕ)) (old next new : Running) (was left : List File) (line : List ℕ) → has_line_end old.line ≡ false → has_line_end line ≡ false → IsReplied old was (old.line ++ line) next left → WritesOn a b next new → IsGone a b old was new left (line ++ 10 ∷ []) []
+gone_line a b old next new was left line whole_line whole replied writes = record {
+  lines = (old.line ++ line) ∷ [];
+  script = λ rest. ended_first old.line line rest whole_line whole ∙ ap (λ (l : List ℕ). (old.line ++ line) ∷ lines_of (l ++ rest)) (sym empty);
+  answers = replied.answer ∷ [];
+  answered = (replied.answered, tt);
+  machine = ap (λ (r : Running). machine_of r left) writes.others ∙ replied.machine;
+  replies = subst (λ (x : List ℕ). Leads a b x new.unwritten) (replied.unwritten ∙ ap (λ (x : List ℕ). old.unwritten ++ x) (sym (append-nil replied.answer.text))) writes.replies;
+  refused = ap (λ (r : Running). r.refused) writes.others ∙ replied.refused ∙ ap (λ (r : Bool). old.refused || r) (sym (or-false replied.answer.refused));
 } where
-  both : has_line_end (mid.line ++ line) ≡ false
-  both = list_any-append (λ (b : ℕ). eqb b 10) mid.line line ∙ rw (whole_line, whole) refl
-
   empty : new.line ≡ []
   empty = ap (λ (r : Running). r.line) writes.others ∙ replied.line
-
-  one-text : replies_of (gone.answers ++ replied.answer ∷ []) ≡ replies_of gone.answers ++ replied.answer.text
-  one-text = replies-append gone.answers (replied.answer ∷ []) ∙ ap (λ (x : List ℕ). replies_of gone.answers ++ x) (append-nil replied.answer.text)
-
-  one-refused : has_refusal (gone.answers ++ replied.answer ∷ []) ≡ has_refusal gone.answers || replied.answer.refused
-  one-refused = refusal-append gone.answers (replied.answer ∷ []) ∙ ap (λ (r : Bool). has_refusal gone.answers || r) (or-false replied.answer.refused)
-
-  led : Leads a b (old.unwritten ++ replies_of (gone.answers ++ replied.answer ∷ [])) next.unwritten
-  led =
-      subst (λ (x : List ℕ). Leads a b x next.unwritten) (append_assoc old.unwritten (replies_of gone.answers) replied.answer.text ∙ ap (λ (x : List ℕ). old.unwritten ++ x) (sym one-text))
-      (subst (λ (y : List ℕ). Leads a b ((old.unwritten ++ replies_of gone.answers) ++ replied.answer.text) y) (sym replied.unwritten) (leads_more a b _ _ replied.answer.text gone.replies))
 
 -- more was written or kept
 pub gone_write : (a b c : Option (List ℕ)) (old mid new : Running) (was is : List File) (taken rest : List ℕ) → WritesOn b c mid new → IsGone a b old was mid is taken rest → IsGone a c old was new is taken rest
@@ -230,46 +239,11 @@ gone_keep a b old mid new was is taken left kept gone = rw kept (record {
   refused = gone.refused;
 })
 
--- ---- runs that stop
-
--- what was written is a prefix of the replies so far
-pub gone_part : (a b : Option (List ℕ)) (old mid : Running) (was is : List File) (taken left rest : List ℕ) → IsGone a b old was mid is taken left → IsPart a b old was (lines_of (old.line ++ (taken ++ rest)))
-gone_part a b old mid was is taken left rest gone = record {
-  lines = gone.lines;
-  others = lines_of (mid.line ++ (left ++ rest));
-  split = gone.script rest;
-  answers = gone.answers;
-  answered = gone.answered;
-  replies = leads_prefix a b b _ _ gone.replies (prefix_none b _);
-}
-
--- and so it is where more was written in part
-pub gone_part_more : (a b c : Option (List ℕ)) (old mid : Running) (was is : List File) (taken left rest : List ℕ) → IsGone a b old was mid is taken left → GrowsByPrefix b c mid.unwritten → IsPart a c old was (lines_of (old.line ++ (taken ++ rest)))
-gone_part_more a b c old mid was is taken left rest gone more = record {
-  lines = gone.lines;
-  others = lines_of (mid.line ++ (left ++ rest));
-  split = gone.script rest;
-  answers = gone.answers;
-  answered = gone.answered;
-  replies = leads_prefix a b c _ _ gone.replies more;
-}
-
--- nothing was answered and nothing written
-pub part_none : (a : Option (List ℕ)) (run : Running) (was : List File) (script : List (List ℕ)) → IsPart a a run was script
-part_none a run was script = record {
-  lines = [];
-  others = script;
-  split = refl;
-  answers = [];
-  answered = tt;
-  replies = prefix_none a _;
-}
-
 -- ---- the end of a script
 
-last-lines : (line : List ℕ) → line ≢ [] → has_line_end line ≡ false → lines_of line ≡ line ∷ []
-last-lines [] some whole = absurd (some refl)
-last-lines (b ∷ line) some whole = lines-last b line whole
+pub last_lines : (line : List ℕ) → line ≢ [] → has_line_end line ≡ false → lines_of line ≡ line ∷ []
+last_lines [] some whole = absurd (some refl)
+last_lines (b ∷ line) some whole = lines-last b line whole
 
 -- a script without an unfinished line
 pub last_none : (run : Running) (files : List File) → run.line ≡ [] → IsLast run files run files
@@ -285,7 +259,7 @@ last_none run files none = record {
 pub last_line : (run new : Running) (was left : List File) → run.line ≢ [] → has_line_end run.line ≡ false → IsReplied run was run.line new left → IsLast run was new left
 last_line run new was left some whole replied = record {
   answers = replied.answer ∷ [];
-  answered = rw (last-lines run.line some whole) (replied.answered, tt);
+  answered = rw (last_lines run.line some whole) (replied.answered, tt);
   machine = replied.machine;
   unwritten = replied.unwritten ∙ ap (λ (x : List ℕ). run.unwritten ++ x) (sym (append-nil replied.answer.text));
   refused = replied.refused ∙ ap (λ (r : Bool). run.refused || r) (sym (or-false replied.answer.refused));
@@ -301,17 +275,6 @@ last_finished a b run new was left any_refused grown is last = record {
   refused = is ∙ last.refused;
 }
 
--- or in part
-pub last_part : (a b : Option (List ℕ)) (run new : Running) (was left : List File) → GrowsByPrefix a b new.unwritten → IsLast run was new left → IsPart a b run was (lines_of run.line)
-last_part a b run new was left grown last = record {
-  lines = lines_of run.line;
-  others = [];
-  split = sym (append-nil (lines_of run.line));
-  answers = last.answers;
-  answered = last.answered;
-  replies = subst (λ (x : List ℕ). GrowsByPrefix a b x) last.unwritten grown;
-}
-
 -- ---- the same, where the files are told
 
 pub goes_none : (a : Option (List ℕ)) (run : Running) (was : Option (List File)) (bytes : List ℕ) → Goes a a run was run was bytes bytes
@@ -319,21 +282,19 @@ goes_none a run None bytes = tt
 goes_none a run (Some was) bytes = gone_none a run was bytes
 
 module _ (a b : Option (List ℕ)) (old mid : Running) (was is : Option (List File)) (taken left : List ℕ) (goes : Goes a b old was mid is taken left) where
-  pub goes_part : WritesSome a b old was taken
-  goes_part = told_first was is (λ x y gone rest. gone_part a b old mid x y taken left rest gone) goes
-
-  pub goes_part_more : (c : Option (List ℕ)) → GrowsByPrefix b c mid.unwritten → WritesSome a c old was taken
-  goes_part_more c more = told_first was is (λ x y gone rest. gone_part_more a b c old mid x y taken left rest gone more) goes
-
   pub goes_keep : (new : Running) → new ≡ record mid { line = mid.line ++ left } → Goes a b old was new is taken []
   goes_keep new kept = told_map was is (λ x y gone. gone_keep a b old mid new x y taken left kept gone) goes
 
   pub goes_write : (c : Option (List ℕ)) (new : Running) → WritesOn b c mid new → Goes a c old was new is taken left
   goes_write c new writes = told_map was is (λ x y gone. gone_write a b c old mid new x y taken left writes gone) goes
 
-  pub goes_line : (c : Option (List ℕ)) (next new : Running) (after : Option (List File)) (line behind : List ℕ) → left ≡ line ++ 10 ∷ behind → has_line_end mid.line ≡ false → has_line_end line ≡ false → Replied mid is (mid.line ++ line) next after → WritesOn b c next new → Goes a c old was new after taken behind
-  goes_line c next new after line behind parts whole_line whole replied writes =
-      told_then was is after (λ x y z gone done. gone_line a b c old mid next new x y z taken left line behind parts whole_line whole done writes gone) goes replied
+  pub goes_front : (c : Option (List ℕ)) (new : Running) (after : Option (List File)) (front behind : List ℕ) → left ≡ front ++ behind → Goes b c mid is new after front [] → Goes a c old was new after taken behind
+  goes_front c new after front behind parts then =
+      told_then was is after (λ x y z gone more. gone_front a b c old mid new x y z taken front behind (subst (λ (l : List ℕ). IsGone a b old x mid y taken l) parts gone) more) goes then
+
+pub goes_line : (a b : Option (List ℕ)) (old next new : Running) (was left : Option (List File)) (line : List ℕ) → has_line_end old.line ≡ false → has_line_end line ≡ false → Replied old was (old.line ++ line) next left → WritesOn a b next new → Goes a b old was new left (line ++ 10 ∷ []) []
+goes_line a b old next new was left line whole_line whole replied writes =
+    told_map was left (λ x y done. gone_line a b old next new x y line whole_line whole done writes) replied
 
 -- a line was answered
 pub replied_gives : (old new : Running) (was left : Option (List File)) (done : List ℕ) (any_refused : Bool) → new.line ≡ [] → new.refused ≡ (old.refused || any_refused) → GivesTold (λ m a. IsAnswer m done a) old.state new.state was left old.unwritten new.unwritten any_refused → Replied old was done new left

@@ -120,6 +120,19 @@ IsCommandAnswer m (command.Load file) a = IsLoadReply m file m.state.eco a
 IsCommandAnswer m command.EcoBegin a = a ≡ in_state m (begin_answer m.state m.state.eco)
 IsCommandAnswer m command.EcoUndo a = a ≡ in_state m (undo_answer m.state m.state.eco)
 
+-- the command names a file, which is read or written
+abbrev pub TouchesFile : Command → Type 0
+TouchesFile (command.Save file) = Unit {0}
+TouchesFile (command.Load file) = Unit {0}
+TouchesFile (command.ReadLef file) = Unit {0}
+TouchesFile other = ⊥
+
+-- the line asks for such a command
+abbrev pub NamesFile : Request → Type 0
+NamesFile (Ok (Some command)) = TouchesFile command
+NamesFile (Ok None) = ⊥
+NamesFile (Err fault) = ⊥
+
 -- the machine answers so to what a line asks for: nothing, a command, or what is no command
 abbrev pub IsRequestAnswer : Machine → Request → Answered → Type 0
 IsRequestAnswer m (Ok None) a = a ≡ in_state m (unanswered m.state)

@@ -8,6 +8,16 @@ abbrev pub lines_of : List ℕ → List (List ℕ)
 lines_of [] = []
 lines_of (b ∷ bytes) = if b == 10 then [] ∷ lines_of bytes else onto_first b (lines_of bytes)
 
+-- the byte in front of the first of these lines, where there is one
+abbrev pub before_first : ℕ → List (List ℕ) → List (List ℕ)
+before_first b [] = []
+before_first b (line ∷ lines) = (b ∷ line) ∷ lines
+
+-- the lines whose LF is among the bytes; what stands behind the last LF is none of them
+abbrev pub ended_lines : List ℕ → List (List ℕ)
+ended_lines [] = []
+ended_lines (b ∷ bytes) = if b == 10 then [] ∷ ended_lines bytes else before_first b (ended_lines bytes)
+
 -- the bytes have an LF
 abbrev pub has_line_end : List ℕ → Bool
 has_line_end bytes = list_any (λ b. b == 10) bytes

@@ -1,6 +1,6 @@
 -- What holds between two pieces of a script. The contracts of the parts of a run cite this module; that of
 -- the whole run doesn't.
-use Rattle.std.specs.Prelude.{◌≡◌, ◌≤◌, ◌+◌, ◌||◌, Bool, true, false, List, [], ◌++◌, ℕ, Option, None, Some, Result, Ok, Err, ⊤, IsErrOf, length}
+use Rattle.std.specs.Prelude.{◌≡◌, ◌≤◌, ◌+◌, ◌||◌, Bool, true, false, List, [], ◌∷◌, ◌++◌, ℕ, Option, None, Some, Result, Ok, Err, ⊤, IsErrOf, length}
 use Rattle.odb_outside.specs.Files.{File}
 use Rattle.odb_outside.specs.Outside.{Rose}
 use Rattle.odb_outside.specs.Writing.{Grows, GrowsByPrefix}
@@ -12,8 +12,9 @@ use Rattle.odb_run.specs.declared.status.Status.{Status}
 use Rattle.odb_run.specs.declared.status.Status.TheVariants as status
 use Rattle.odb_run.specs.declared.stop.Stop.{Stop}
 use Rattle.odb_run.specs.declared.stop.Stop.TheVariants as stop
-use Rattle.odb_run.specs.Answering.{Answered, AreAnswers, IsAnswer, Machine, has_refusal, machine, machine_after, replies_of}
-use Rattle.odb_run.specs.Lines.{lines_of}
+use Rattle.script_words.specs.Commands.{request_of}
+use Rattle.odb_run.specs.Answering.{Answered, AreAnswers, IsAnswer, Machine, NamesFile, has_refusal, machine, machine_after, replies_of}
+use Rattle.odb_run.specs.Lines.{has_line_end, lines_of}
 use Rattle.odb_run.specs.Machine.{Answer, State}
 use Rattle.odb_run.specs.Told.{IfTold, WhereTold}
 
@@ -114,22 +115,50 @@ pub record IsGone (before now : Option (List ℕ)) (old : Running) (was : List F
 abbrev pub Goes : Option (List ℕ) → Option (List ℕ) → Running → Option (List File) → Running → Option (List File) → List ℕ → List ℕ → Type 0
 Goes before now old was new is taken left = WhereTold was is (λ was is. IsGone before now old was new is taken left)
 
--- the first lines of a script were answered, and some of the replies were written, from the first on
-pub record IsPart (before now : Option (List ℕ)) (old : Running) (was : List File) (script : List (List ℕ)) : Type 0 where
+-- between two pieces of a script no reply is left to be written, and the unfinished line has no LF
+pub record IsBetween (run : Running) : Type 0 where
+  pub written : run.unwritten ≡ []
+  pub whole : has_line_end run.line ≡ false
+
+-- so much of some replies was written, by what stopped the run: all of them where a file failed, else a prefix
+abbrev pub Gains : Stop → Option (List ℕ) → Option (List ℕ) → List ℕ → Type 0
+Gains stop.FileFault before now replies = Grows before now replies
+Gains other before now replies = GrowsByPrefix before now replies
+
+-- the first of these lines names a file, where it was a file that stopped the run
+abbrev pub BeginsAt : Stop → List (List ℕ) → Type 0
+BeginsAt stop.FileFault [] = ⊥
+BeginsAt stop.FileFault (line ∷ lines) = NamesFile (request_of line)
+BeginsAt other lines = ⊤
+
+-- The first lines of a script were answered before the run stopped, and so much of their replies was written.
+pub record IsStopped (reason : Stop) (before now : Option (List ℕ)) (old : Running) (was : List File) (script : List (List ℕ)) : Type 0 where
   pub lines : List (List ℕ)
   pub others : List (List ℕ)
   pub split : script ≡ lines ++ others
+  pub next : BeginsAt reason others
   pub answers : List Answered
   pub answered : AreAnswers (machine_of old was) lines answers
-  pub replies : GrowsByPrefix before now (old.unwritten ++ replies_of answers)
+  pub replies : Gains reason before now (old.unwritten ++ replies_of answers)
 
--- whatever the rest of the script, that is so
-abbrev pub WritesSome : Option (List ℕ) → Option (List ℕ) → Running → Option (List File) → List ℕ → Type 0
-WritesSome before now old was taken = IfTold was (λ was. (rest : List ℕ) → IsPart before now old was (lines_of (old.line ++ (taken ++ rest))))
+-- whatever the rest of the script behind these bytes, that is so
+abbrev pub Stops : Stop → Option (List ℕ) → Option (List ℕ) → Running → Option (List File) → List ℕ → Type 0
+Stops reason before now old was taken = IfTold was (λ was. (rest : List ℕ) → IsStopped reason before now old was (lines_of (old.line ++ (taken ++ rest))))
 
 -- in the end of a script, that is so of the unfinished line
-abbrev pub FinishesPart : Option (List ℕ) → Option (List ℕ) → Running → Option (List File) → Type 0
-FinishesPart before now run was = IfTold was (λ was. IsPart before now run was (lines_of run.line))
+abbrev pub StopsLast : Stop → Option (List ℕ) → Option (List ℕ) → Running → Option (List File) → Type 0
+StopsLast reason before now run was = IfTold was (λ was. IsStopped reason before now run was (lines_of run.line))
+
+-- What stops a run at a line that has no answer, by its fault, where these replies were to be written before. For want of
+-- memory nothing more is written.
+abbrev pub IsStopFor : FileFault → Stop → Option (List ℕ) → Option (List ℕ) → List ℕ → Type 0
+IsStopFor file.Memory reason before now replies = (reason ≡ stop.Memory) × (now ≡ before)
+IsStopFor file.Failed reason before now replies = Gains reason before now replies
+
+-- a file failed at this line, to which there is no reply
+pub record FailsAt (line : List ℕ) (old new : List ℕ) : Type 0 where
+  pub names : NamesFile (request_of line)
+  pub replies : new ≡ old
 
 -- the unfinished line, where there is one, was answered, all replies are written, and this says whether some was a
 -- refusal
@@ -176,20 +205,36 @@ Within s (Some script) None before now was run is count = ⊥
 Within s (Some script) (Some left) before now was run is count = WhereTold was is (λ was is. IsWithin s script left before now was run is count)
 
 -- so many bytes of a script were taken, and these are left
-abbrev pub Counts : Option (List ℕ) → Option (List ℕ) → ℕ → Type 0
-Counts None left count = ⊤
-Counts (Some script) None count = ⊥
-Counts (Some script) (Some left) count = length script ≡ count + length left
+pub record IsTaken (script left : List ℕ) (count : ℕ) : Type 0 where
+  pub taken : List ℕ
+  pub split : script ≡ taken ++ left
+  pub counted : length taken ≡ count
+
+-- the same, where the script tells its bytes
+abbrev pub Takes : Option (List ℕ) → Option (List ℕ) → ℕ → Type 0
+Takes None left count = ⊤
+Takes (Some script) None count = ⊥
+Takes (Some script) (Some left) count = IsTaken script left count
 
 -- a count of faults never falls, and it rose where the run stopped for this reason
 pub record HasFaultCause {T : Type 0} (before now : ℕ) (result : Result T Stop) (stop : Stop) : Type 0 where
   pub later : before ≤ now
   pub failed : IsErrOf result stop → Rose before now
 
--- a count of faults never falls, and it rose where the run stopped for a fault of writing; it didn't stop for
--- one of reading the script, nor for the script's length
-pub record HasOutCause {T : Type 0} (before now : ℕ) (result : Result T Stop) : Type 0 where
+-- The sink's count never falls, and it rose where writing stopped the run. It was neither reading the script that stopped
+-- it, nor the script's length.
+pub record HasStopCause (before now : ℕ) (reason : Stop) : Type 0 where
   pub later : before ≤ now
-  pub failed : IsErrOf result stop.OutFault → Rose before now
+  pub failed : reason ≡ stop.OutFault → Rose before now
+  pub no_script_fault : reason ≡ stop.ScriptFault → ⊥
+  pub not_too_long : reason ≡ stop.ScriptTooLong → ⊥
+
+-- The counts of the sink and of the shelf never fall, and that of the one that stopped the run rose. It was
+-- neither reading the script that stopped it, nor the script's length.
+pub record HasCauses {T : Type 0} (out_before out_now file_before file_now : ℕ) (result : Result T Stop) : Type 0 where
+  pub out_later : out_before ≤ out_now
+  pub out_failed : IsErrOf result stop.OutFault → Rose out_before out_now
+  pub file_later : file_before ≤ file_now
+  pub file_failed : IsErrOf result stop.FileFault → Rose file_before file_now
   pub no_script_fault : IsErrOf result stop.ScriptFault → ⊥
   pub not_too_long : IsErrOf result stop.ScriptTooLong → ⊥

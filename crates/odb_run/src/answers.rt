@@ -1,11 +1,11 @@
-ghost use Rattle.std.specs.Prelude.{◌≡◌, IfOk, OnOk};
+ghost use Rattle.std.specs.Prelude.{◌≡◌, IfOk, IsErrOf, OnOk};
 ghost use Rattle.odb_outside.specs.Shelves.{files_told};
 ghost use Rattle.odb_outside.specs.declared.shelf.Hand.{Hand as AnyHand};
 ghost use Rattle.shelf_files.specs.Causes.{HasCause};
-ghost use Rattle.odb_run.specs.Answering.{IsAnswer, IsCommandAnswer, IsRequestAnswer};
+ghost use Rattle.odb_run.specs.Answering.{IsAnswer, IsCommandAnswer, IsRequestAnswer, TouchesFile};
 ghost use Rattle.odb_run.specs.Loaded.{GivesInSession, TouchesNoFile};
 ghost use Rattle.odb_run.specs.Machine.{begin_answer, edit_answer, part_answer, report_answer, save_answer, undo_answer};
-ghost use Rattle.odb_run.specs.Running.{Answers, GivesTold};
+ghost use Rattle.odb_run.specs.Running.{Answers, FailsAt, GivesTold};
 ghost use Rattle.script_words.specs.Commands.{request_of};
 
 use crate::file_answers::{answer_load, answer_save_to};
@@ -38,6 +38,7 @@ pub fn answer_line<F: Shelf, L: Ledger>(
 ) -> Result<bool, FileFault>
     requires { F.hand shelf.old ≡ Hand.Nothing }
     ensures gives { IfOk result (λ refused. GivesTold (λ m a. IsAnswer m line.now a) session.old session.new (files_told (F.told shelf.old)) (files_told (F.told shelf.new)) replies.old.items replies.new.items refused) }
+    ensures failed { IsErrOf result FileFault.Failed → FailsAt line.now replies.old.items replies.new.items }
     ensures hand { OnOk result (F.hand shelf.new ≡ Hand.Nothing) }
     ensures cause { HasCause (F.faults shelf.old) (F.faults shelf.new) result }
 {
@@ -58,6 +59,7 @@ fn answer_request<F: Shelf, L: Ledger>(
 ) -> Result<bool, FileFault>
     requires { F.hand shelf.old ≡ Hand.Nothing }
     ensures gives { IfOk result (λ refused. GivesTold (λ m a. IsRequestAnswer m (request_of line.now) a) session.old session.new (files_told (F.told shelf.old)) (files_told (F.told shelf.new)) replies.old.items replies.new.items refused) }
+    ensures failed { IsErrOf result FileFault.Failed → FailsAt line.now replies.old.items replies.new.items }
     ensures hand { OnOk result (F.hand shelf.new ≡ Hand.Nothing) }
     ensures cause { HasCause (F.faults shelf.old) (F.faults shelf.new) result }
 {
@@ -82,13 +84,14 @@ fn answer_command<F: Shelf, L: Ledger>(
 ) -> Result<bool, FileFault>
     requires { F.hand shelf.old ≡ Hand.Nothing }
     ensures gives { IfOk result (λ refused. GivesTold (λ m a. IsCommandAnswer m command a) session.old session.new (files_told (F.told shelf.old)) (files_told (F.told shelf.new)) replies.old.items replies.new.items refused) }
+    ensures failed { IsErrOf result FileFault.Failed → TouchesFile command × (replies.new.items ≡ replies.old.items) }
     ensures hand { OnOk result (F.hand shelf.new ≡ Hand.Nothing) }
     ensures cause { HasCause (F.faults shelf.old) (F.faults shelf.new) result }
 {
     match command {
-        Command::Save { file } => answer_save_to(alloc, session, &file, shelf, replies),
-        Command::Load { file } => answer_load(alloc, session, &file, shelf, replies),
-        Command::ReadLef { file } => answer_read_lef(alloc, session, &file, shelf, replies),
+        Command::Save { file } => answer_save_to(alloc, session, file, shelf, replies),
+        Command::Load { file } => answer_load(alloc, session, file, shelf, replies),
+        Command::ReadLef { file } => answer_read_lef(alloc, session, file, shelf, replies),
         other => Ok(answer_in_session(alloc, session, other, replies, moves)?),
     }
 }
@@ -105,18 +108,18 @@ fn answer_in_session<L: Ledger>(
     ensures { IfOk result (λ refused. GivesInSession (λ m a. IsCommandAnswer m command a) session.old session.new replies.old.items replies.new.items refused) }
 {
     match command {
-        Command::Edit(edit) => answer_edit(alloc, session, &edit, replies, moves),
+        Command::Edit(edit) => answer_edit(alloc, session, edit, replies, moves),
         Command::Units(units) => answer_part(alloc, session, TechPart::Units(units), replies),
         Command::Layer(layer) => answer_part(alloc, session, TechPart::Layer(layer), replies),
         Command::Site(site) => answer_part(alloc, session, TechPart::Site(site), replies),
         Command::Master(master) => {
             answer_part(alloc, session, TechPart::Master(master), replies)
         }
-        Command::Find { kind, name } => answer_query(session, &Query::Find { kind, name }, replies),
-        Command::List { kind } => answer_query(session, &Query::List { kind }, replies),
-        Command::Free { kind } => answer_query(session, &Query::Free { kind }, replies),
-        Command::Counts => answer_query(session, &Query::Counts, replies),
-        Command::Terms { net } => answer_query(session, &Query::Terms { net }, replies),
+        Command::Find { kind, name } => answer_query(session, Query::Find { kind, name }, replies),
+        Command::List { kind } => answer_query(session, Query::List { kind }, replies),
+        Command::Free { kind } => answer_query(session, Query::Free { kind }, replies),
+        Command::Counts => answer_query(session, Query::Counts, replies),
+        Command::Terms { net } => answer_query(session, Query::Terms { net }, replies),
         Command::SaveShown => answer_save(alloc, session, replies),
         Command::EcoBegin => answer_begin(alloc, session, replies),
         Command::EcoUndo => answer_undo(session, replies, moves),
@@ -128,13 +131,15 @@ fn answer_in_session<L: Ledger>(
 fn answer_edit<L: Ledger>(
     alloc: Global,
     session: &mut Session,
-    edit: &Edit,
+    edit: Edit,
     replies: &mut Vec<u8>,
     moves: &mut Steps<L>,
 ) -> Result<bool, AllocError>
-    ensures { IfOk result (Answers (edit_answer session.old edit.now) session.new replies.old.items replies.new.items) }
+    ensures { IfOk result (Answers (edit_answer session.old edit) session.new replies.old.items replies.new.items) }
 {
-    match session.edit(alloc, edit, moves) {
+    let result = session.edit(alloc, &edit, moves);
+    drop(edit);
+    match result {
         Ok(outcome) => {
             put_outcome(replies, &outcome)?;
             Ok(false)
@@ -176,12 +181,14 @@ fn answer_part(
 #[tactic(auto, unfolding(crate::specs::Machine::report_answer))]
 fn answer_query(
     session: &mut Session,
-    query: &Query,
+    query: Query,
     replies: &mut Vec<u8>,
 ) -> Result<bool, AllocError>
-    ensures { IfOk result (Answers (report_answer session.old query.now) session.new replies.old.items replies.new.items) }
+    ensures { IfOk result (Answers (report_answer session.old query) session.new replies.old.items replies.new.items) }
 {
-    match report(session.database(), query, replies) {
+    let result = report(session.database(), &query, replies);
+    drop(query);
+    match result {
         Ok(()) => Ok(false),
         Err(fault) => {
             put_report_fault(replies, fault)?;

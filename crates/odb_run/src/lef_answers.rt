@@ -1,6 +1,6 @@
 //! Answers to the line that reads a LEF file.
 
-ghost use Rattle.std.specs.Prelude.{◌≡◌, None, IfOk, OnOk};
+ghost use Rattle.std.specs.Prelude.{◌≡◌, None, IfOk, IsErrOf, OnOk};
 ghost use Rattle.odb_outside.specs.Shelves.{files_told};
 ghost use Rattle.odb_outside.specs.declared.shelf.Hand.{Hand as AnyHand};
 ghost use Rattle.shelf_files.specs.Causes.{HasCause};
@@ -26,12 +26,13 @@ use std::alloc::{AllocError, Global};
 pub fn answer_read_lef<F: Shelf>(
     alloc: Global,
     session: &mut Session,
-    file: &FileName,
+    file: FileName,
     shelf: &mut F,
     replies: &mut Vec<u8>,
 ) -> Result<bool, FileFault>
     requires { F.hand shelf.old ≡ Hand.Nothing }
-    ensures gives { IfOk result (λ refused. GivesTold (λ m a. a ≡ read_lef_answer m file.now m.state.eco) session.old session.new (files_told (F.told shelf.old)) (files_told (F.told shelf.new)) replies.old.items replies.new.items refused) }
+    ensures gives { IfOk result (λ refused. GivesTold (λ m a. a ≡ read_lef_answer m file m.state.eco) session.old session.new (files_told (F.told shelf.old)) (files_told (F.told shelf.new)) replies.old.items replies.new.items refused) }
+    ensures failed { IsErrOf result FileFault.Failed → replies.new.items ≡ replies.old.items }
     ensures hand { OnOk result (F.hand shelf.new ≡ Hand.Nothing) }
     ensures cause { HasCause (F.faults shelf.old) (F.faults shelf.new) result }
 {

@@ -27,6 +27,6 @@ mod steps;
 mod stop;
 mod top;
 
-pub use laws::answers_are_determined;
+pub use laws::{answers_are_determined, each_line_has_an_answer};
 pub use status::Status;
 pub use top::odb_main;

@@ -1,11 +1,11 @@
-ghost use Rattle.std.specs.Prelude.{◌≡◌, ◌<◌, ◌≤◌, ◌++◌, [], IfOk, IfSome, IsTrue, OnErr, OnOk, false, length};
+ghost use Rattle.std.specs.Prelude.{◌≡◌, ◌<◌, ◌≤◌, ◌++◌, ◌∷◌, [], IfErr, IfOk, IfSome, IsErrOf, IsTrue, OnErr, OnOk, false, length};
 ghost use Rattle.odb_outside.specs.Outside.{HasWriteCause};
 ghost use Rattle.odb_outside.specs.Writing.{Grows, GrowsByPrefix, UnlessFailed};
 ghost use Rattle.odb_outside.specs.Shelves.{files_told};
 ghost use Rattle.odb_outside.specs.declared.shelf.Hand.{Hand as AnyHand};
 ghost use Rattle.shelf_files.specs.Causes.{HasCause as HasFileCause};
 ghost use Rattle.odb_run.specs.Machine.{start};
-ghost use Rattle.odb_run.specs.Lines.{IsLineEnd, has_line_end};
+ghost use Rattle.odb_run.specs.Lines.{IsLineEnd, has_line_end, lines_of};
 
 use crate::answers::answer_line;
 use crate::session::Session;
@@ -49,7 +49,7 @@ impl Model for Run {
 }
 
 impl Run {
-    ghost use Rattle.odb_run.specs.Running.{EndsLast, Finishes, FinishesPart, Goes, HasFaultCause, HasOutCause, Replied, WritesOn, WritesSome, first_run};
+    ghost use Rattle.odb_run.specs.Running.{EndsLast, FailsAt, Finishes, Goes, HasCauses, HasStopCause, IsBetween, IsStopFor, Replied, Stops, StopsLast, WritesOn, first_run};
 
     /// A run that has taken nothing of its script, over the empty database, whose tables have at most `cap`
     /// slots each.
@@ -77,11 +77,12 @@ impl Run {
         requires hand { F.hand shelf.old ≡ Hand.Nothing }
         requires ready { IsTrue (K.ready out.old) }
         ensures ok { IfOk result (λ refused. Finishes (K.held out.old) (K.held out.new) self.old (files_told (F.told shelf.old)) (files_told (F.told shelf.new)) refused) }
-        ensures err { OnErr result (FinishesPart (K.held out.old) (K.held out.new) self.old (files_told (F.told shelf.old))) }
-        ensures out_cause { HasOutCause (K.faults out.old) (K.faults out.new) result }
-        ensures file_cause { HasFaultCause (F.faults shelf.old) (F.faults shelf.new) result Stop.FileFault }
+        ensures err { IfErr result (λ reason. StopsLast reason (K.held out.old) (K.held out.new) self.old (files_told (F.told shelf.old))) }
+        ensures causes { HasCauses (K.faults out.old) (K.faults out.new) (F.faults shelf.old) (F.faults shelf.new) result }
     {
-        self.end_last_line(alloc, shelf, moves)?;
+        if let Err(fault) = self.end_last_line(alloc, shelf, moves) {
+            return Err(self.stop_at(fault, out));
+        }
         self.write_out(out)?;
         Ok(self.refused)
     }
@@ -95,6 +96,8 @@ impl Run {
     ) -> Result<(), FileFault>
         requires { F.hand shelf.old ≡ Hand.Nothing }
         ensures ok { OnOk result (EndsLast self.old (files_told (F.told shelf.old)) self.new (files_told (F.told shelf.new))) }
+        ensures failed { IsErrOf result FileFault.Failed → FailsAt self.old.line self.old.unwritten self.new.unwritten }
+        ensures last { IsErrOf result FileFault.Failed → lines_of self.old.line ≡ self.old.line ∷ [] }
         ensures cause { HasFileCause (F.faults shelf.old) (F.faults shelf.new) result }
     {
         if self.line.is_empty() {
@@ -114,6 +117,7 @@ impl Run {
         requires line { has_line_end bytes.now ≡ false }
         requires hand { F.hand shelf.old ≡ Hand.Nothing }
         ensures ok { OnOk result (Replied self.old (files_told (F.told shelf.old)) (self.old.line ++ bytes.now) self.new (files_told (F.told shelf.new))) }
+        ensures failed { IsErrOf result FileFault.Failed → FailsAt (self.old.line ++ bytes.now) self.old.unwritten self.new.unwritten }
         ensures whole { has_line_end self.old.line ≡ false }
         ensures hand { OnOk result (F.hand shelf.new ≡ Hand.Nothing) }
         ensures cause { HasFileCause (F.faults shelf.old) (F.faults shelf.new) result }
@@ -136,6 +140,7 @@ impl Run {
         requires line { self.old.line ≡ [] }
         requires hand { F.hand shelf.old ≡ Hand.Nothing }
         ensures ok { OnOk result (Replied self.old (files_told (F.told shelf.old)) line.now self.new (files_told (F.told shelf.new))) }
+        ensures failed { IsErrOf result FileFault.Failed → FailsAt line.now self.old.unwritten self.new.unwritten }
         ensures hand { OnOk result (F.hand shelf.new ≡ Hand.Nothing) }
         ensures cause { HasFileCause (F.faults shelf.old) (F.faults shelf.new) result }
     {
@@ -154,6 +159,7 @@ impl Run {
     ) -> Result<(), FileFault>
         requires { F.hand shelf.old ≡ Hand.Nothing }
         ensures ok { OnOk result (Replied self.old (files_told (F.told shelf.old)) self.old.line self.new (files_told (F.told shelf.new))) }
+        ensures failed { IsErrOf result FileFault.Failed → FailsAt self.old.line self.old.unwritten self.new.unwritten }
         ensures whole { has_line_end self.old.line ≡ false }
         ensures hand { OnOk result (F.hand shelf.new ≡ Hand.Nothing) }
         ensures cause { HasFileCause (F.faults shelf.old) (F.faults shelf.new) result }
@@ -172,7 +178,8 @@ impl Run {
         Ok(())
     }
 
-    /// Takes a piece of the script. Each line that ends in it is answered, and the replies are written.
+    /// Takes a piece of the script. Each line that ends in it is answered, and the replies are written, up to a line at
+    /// which a file fails.
     pub fn take_piece<F: Shelf, K: Sink, L: Ledger>(
         &mut self,
         alloc: Global,
@@ -184,28 +191,71 @@ impl Run {
         requires hand { F.hand shelf.old ≡ Hand.Nothing }
         requires ready { IsTrue (K.ready out.old) }
         ensures ok { OnOk result (Goes (K.held out.old) (K.held out.new) self.old (files_told (F.told shelf.old)) self.new (files_told (F.told shelf.new)) piece.now []) }
-        ensures err { OnErr result (WritesSome (K.held out.old) (K.held out.new) self.old (files_told (F.told shelf.old)) piece.now) }
+        ensures err { IfErr result (λ reason. Stops reason (K.held out.old) (K.held out.new) self.old (files_told (F.told shelf.old)) piece.now) }
+        ensures between { OnOk result (IsBetween self.new) }
         ensures hand { OnOk result (F.hand shelf.new ≡ Hand.Nothing) }
         ensures ready { OnOk result (IsTrue (K.ready out.new)) }
-        ensures out_cause { HasOutCause (K.faults out.old) (K.faults out.new) result }
-        ensures file_cause { HasFaultCause (F.faults shelf.old) (F.faults shelf.new) result Stop.FileFault }
+        ensures causes { HasCauses (K.faults out.old) (K.faults out.new) (F.faults shelf.old) (F.faults shelf.new) result }
     {
         let mut rest = piece;
         'lines: while let Some(at) = line_end(rest) {
             let (line, behind) = rest.split_at(at);
-            self.end_line(alloc, line, shelf, moves)?;
-            self.write_much(out)?;
+            self.take_line(alloc, line, shelf, out, moves)?;
             rest = &behind[1..];
         }
-        self.keep(rest)?;
         self.write_out(out)?;
+        self.keep(rest)?;
         Ok(())
+    }
+
+    // Takes the bytes that end a line, without its LF. The replies are written where they have become many, and where a
+    // file fails.
+    fn take_line<F: Shelf, K: Sink, L: Ledger>(
+        &mut self,
+        alloc: Global,
+        bytes: &[u8],
+        shelf: &mut F,
+        out: &mut K,
+        moves: &mut Steps<L>,
+    ) -> Result<(), Stop>
+        requires line { has_line_end bytes.now ≡ false }
+        requires hand { F.hand shelf.old ≡ Hand.Nothing }
+        requires ready { IsTrue (K.ready out.old) }
+        ensures ok { OnOk result (Goes (K.held out.old) (K.held out.new) self.old (files_told (F.told shelf.old)) self.new (files_told (F.told shelf.new)) (bytes.now ++ 10 ∷ []) []) }
+        ensures err { IfErr result (λ reason. Stops reason (K.held out.old) (K.held out.new) self.old (files_told (F.told shelf.old)) (bytes.now ++ 10 ∷ [])) }
+        ensures hand { OnOk result (F.hand shelf.new ≡ Hand.Nothing) }
+        ensures ready { OnOk result (IsTrue (K.ready out.new)) }
+        ensures causes { HasCauses (K.faults out.old) (K.faults out.new) (F.faults shelf.old) (F.faults shelf.new) result }
+    {
+        if let Err(fault) = self.end_line(alloc, bytes, shelf, moves) {
+            return Err(self.stop_at(fault, out));
+        }
+        self.write_much(out)?;
+        Ok(())
+    }
+
+    // Says what stops the run at a line that has no answer. Where a file failed, the replies to the lines before it are
+    // due: they are written, and where that fails it is this that stops the run.
+    fn stop_at<K: Sink>(&mut self, fault: FileFault, out: &mut K) -> Stop
+        requires { IsTrue (K.ready out.old) }
+        ensures stops { IsStopFor fault result (K.held out.old) (K.held out.new) self.old.unwritten }
+        ensures file { result ≡ Stop.FileFault → fault ≡ FileFault.Failed }
+        ensures cause { HasStopCause (K.faults out.old) (K.faults out.new) result }
+    {
+        match fault {
+            FileFault::Memory => Stop::Memory,
+            FileFault::Failed => match self.write_out(out) {
+                Ok(()) => Stop::FileFault,
+                Err(fault) => Stop::from(fault),
+            },
+        }
     }
 
     // Keeps the first bytes of a line until more of it comes.
     fn keep(&mut self, bytes: &[u8]) -> Result<(), AllocError>
         requires { has_line_end bytes.now ≡ false }
-        ensures { OnOk result (self.new ≡ record self.old { line = self.old.line ++ bytes.now }) }
+        ensures kept { OnOk result (self.new ≡ record self.old { line = self.old.line ++ bytes.now }) }
+        ensures whole { OnOk result (has_line_end self.new.line ≡ false) }
     {
         self.line.extend_from_slice(bytes)?;
         Ok(())

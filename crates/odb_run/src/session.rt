@@ -9,7 +9,7 @@ use crate::steps::{do_noted, do_unnoted, undo_all};
 use block_store::Database;
 use edit_words::{Edit, Refusal, Step, TechPart};
 use edits::plan;
-use odb_base::{EcoState, Steps};
+use odb_base::{EcoState, Steps, put_in};
 use odb_save::{LoadFault, load};
 use std::alloc::{AllocError, Global};
 use std::marker::Model;
@@ -162,7 +162,8 @@ impl Session {
         requires { self.old.eco ≡ None }
         ensures puts { Puts self.old bytes.now result self.new }
     {
-        self.database = load(alloc, bytes, self.database.block.cap())?;
+        let database = load(alloc, bytes, self.database.block.cap())?;
+        put_in(&mut self.database, database);
         Ok(())
     }
 
@@ -173,7 +174,7 @@ impl Session {
         match &self.journal {
             Some(_) => Err(WrongState { is: EcoState::Open }),
             None => {
-                self.journal = Some(Journal::new(alloc));
+                put_in(&mut self.journal, Some(Journal::new(alloc)));
                 Ok(())
             }
         }
@@ -191,7 +192,7 @@ impl Session {
                 if undo_all(&mut self.database, journal, moves).is_err() {
                     return Err(UndoFault::Memory);
                 }
-                self.journal = None;
+                put_in(&mut self.journal, None);
                 Ok(count)
             }
         }

@@ -7,13 +7,13 @@ pub enum Status {
     Refused = 1,
     /// The command line isn't lawful. Nothing was read or written.
     Usage = 2,
-    /// Reading the script failed.
+    /// Reading the script failed. The lines whose LF was read before are answered.
     ScriptFault = 3,
     /// Writing the replies failed.
     OutFault = 4,
-    /// Reading or writing a file failed.
+    /// Reading or writing a file failed. The lines before the one that names it are answered.
     FileFault = 5,
-    /// The script has more than 2^30 bytes.
+    /// The script has more than 2^30 bytes. The lines whose LF is among these are answered.
     ScriptTooLong = 6,
     /// There is no memory to go on.
     Memory = 9,

@@ -1,4 +1,4 @@
-ghost use Rattle.std.specs.Prelude.{◌≡◌, ◌∷◌, ◌++◌, ◌+◌, [], None, true, false, IfOk, OnErr, OnOk, length};
+ghost use Rattle.std.specs.Prelude.{◌≡◌, ◌∷◌, ◌++◌, ◌+◌, ◌≤◌, [], None, true, false, IfOk, OnErr, OnOk, length};
 ghost use Rattle.block_store.specs.Store.{Store};
 ghost use Rattle.steps_net.specs.Can.{Can};
 ghost use Rattle.steps_net.specs.Room.{IsReady, lacks};
@@ -39,8 +39,11 @@ pub fn do_unnoted<L: Ledger>(
     ensures ok { OnOk result (db.new ≡ after_steps (step ∷ []) db.old) }
     ensures err { OnErr result (db.new ≡ db.old) }
 {
-    memory_for(&mut db.block, &db.library, &step)?;
-    apply(&mut db.block, &db.tech, &db.library, step, moves);
+    if let Err(refused) = memory_for(&mut db.block, &db.library, &step) {
+        drop(step);
+        return Err(refused);
+    }
+    drop(apply(&mut db.block, &db.tech, &db.library, step, moves));
     Ok(())
 }
 
@@ -61,12 +64,37 @@ pub fn do_noted<L: Ledger>(
     ensures undoable { IsUndoable db.new journal.new.entries db.new.block }
     ensures err { OnErr result ((db.new ≡ db.old) × (journal.new.entries ≡ journal.old.entries)) }
 {
-    memory_for(&mut db.block, &db.library, &step)?;
-    let noted = step.try_clone()?;
+    match copy_to_note(&mut db.block, &db.library, journal, &step) {
+        Ok(noted) => {
+            let memo = apply(&mut db.block, &db.tech, &db.library, step, moves);
+            journal.push(noted, memo);
+            Ok(())
+        }
+        Err(refused) => {
+            drop(step);
+            Err(refused)
+        }
+    }
+}
+
+// Makes room in memory for a step for which the tables have room, and for its entry in the journal, and copies it.
+fn copy_to_note(
+    block: &mut Block,
+    library: &Library,
+    journal: &mut Journal,
+    step: &Step,
+) -> Result<Step, AllocError>
+    requires { lacks step.now block.old.cap block.old.block ≡ None }
+    ensures ready { OnOk result (IsReady step.now block.new) }
+    ensures block { block.new.block ≡ block.old.block }
+    ensures cap { block.new.cap ≡ block.old.cap }
+    ensures spare { OnOk result (1 ≤ journal.new.spare) }
+    ensures entries { journal.new.entries ≡ journal.old.entries }
+    ensures copy { IfOk result (λ noted. noted ≡ step.now) }
+{
+    memory_for(block, library, step)?;
     journal.reserve()?;
-    let memo = apply(&mut db.block, &db.tech, &db.library, step, moves);
-    journal.push(noted, memo);
-    Ok(())
+    step.try_clone()
 }
 
 /// Takes the steps of a journal back, from the last to the first. For want of memory the first of them are left,

@@ -2,7 +2,7 @@ ghost use Rattle.std.specs.Prelude.{◌≡◌, ◌≢◌, ◌-◌, ◌<◌, ◌�
 ghost use Rattle.odb_outside.specs.Outside.{Rose};
 ghost use Rattle.odb_outside.specs.Shelves.{files_told};
 ghost use Rattle.odb_outside.specs.declared.shelf.Hand.{Hand as AnyHand};
-ghost use Rattle.odb_run.specs.Headline.{IsAnswered, RunsToldAs};
+ghost use Rattle.odb_run.specs.Headline.{IsAnswered, ReadsToldAs, RunsToldAs};
 ghost use Rattle.odb_run.specs.Machine.{start};
 ghost use Rattle.odb_run.specs.Running.{HasFaultCause, ended, first_run};
 ghost use Rattle.odb_run.specs.Options.{slots_of};
@@ -22,11 +22,12 @@ pub const SCRIPT_LIMIT: usize = 1 << 30;
 
 /// Runs the script to its end or to what stops it.
 ///
-/// With `Done` or `Refused`, `out` has gained the replies of the copying machine to all lines of the script, the files
-/// of the shelf are the machine's, and `Refused` says that one of the replies is a refusal. After any other status what
-/// was written is a prefix of the replies to the first lines. The lawful command line is the empty list of words, or
-/// `--slots` and a number from 1 to 16,777,215: the greatest number of slots that a table may have, which is also taken
-/// where none is given.
+/// With `Done` or `Refused`, nothing of the script is left, `out` has gained the replies of the copying machine to all
+/// its lines, the files of the shelf are the machine's, and `Refused` says that one of the replies is a refusal. With
+/// `ScriptFault` or `ScriptTooLong` that is so of the lines whose LF was read before. With `FileFault`, `out` has gained
+/// just the replies to the lines before the one at which a file failed, and with `OutFault` or `Memory` a prefix of the
+/// replies to the first lines. The lawful command line is the empty list of words, or `--slots` and a number from 1 to
+/// 16,777,215: the greatest number of slots that a table may have, which is also taken where none is given.
 pub fn odb_main<S: Source, K: Sink, F: Shelf>(
     alloc: Global,
     words: &[Text],
@@ -38,8 +39,9 @@ pub fn odb_main<S: Source, K: Sink, F: Shelf>(
     requires out_ready { IsTrue (K.ready out.old) }
     requires hand { F.hand shelf.old ≡ Hand.Nothing }
     ensures runs { IfSome (slots_of words.now)
-        (λ cap. RunsToldAs (start cap) result (S.left script.old) (K.held out.old) (K.held out.new)
+        (λ cap. RunsToldAs (start cap) result (S.left script.old) (S.left script.new) (K.held out.old) (K.held out.new)
         (files_told (F.told shelf.old)) (files_told (F.told shelf.new))) }
+    ensures script_read { ReadsToldAs result (S.left script.old) (S.left script.new) }
 
     // Why a status comes.
     ensures usage { slots_of words.now ≡ None → result ≡ Status.Usage }
@@ -77,7 +79,8 @@ fn run_counted<S: Source, K: Sink, F: Shelf, L: Ledger>(
     requires name { blank.name ≡ L.name }
     requires parts { blank.parts ≡ L.parts }
     requires some { blank.parts ≡ 1 }
-    ensures runs { RunsToldAs (start cap) result (S.left script.old) (K.held out.old) (K.held out.new) (files_told (F.told shelf.old)) (files_told (F.told shelf.new)) }
+    ensures runs { RunsToldAs (start cap) result (S.left script.old) (S.left script.new) (K.held out.old) (K.held out.new) (files_told (F.told shelf.old)) (files_told (F.told shelf.new)) }
+    ensures script_read { ReadsToldAs result (S.left script.old) (S.left script.new) }
     ensures lawful { result ≢ Status.Usage }
     ensures script_fault { result ≡ Status.ScriptFault → Rose (S.faults script.old) (S.faults script.new) }
     ensures out_fault { result ≡ Status.OutFault → Rose (K.faults out.old) (K.faults out.new) }
@@ -105,7 +108,8 @@ fn run_script<S: Source, K: Sink, F: Shelf, L: Ledger>(
     requires script_ready { IsTrue (S.ready script.old) }
     requires out_ready { IsTrue (K.ready out.old) }
     requires hand { F.hand shelf.old ≡ Hand.Nothing }
-    ensures runs { RunsToldAs (start cap) (ended result) (S.left script.old) (K.held out.old) (K.held out.new) (files_told (F.told shelf.old)) (files_told (F.told shelf.new)) }
+    ensures runs { RunsToldAs (start cap) (ended result) (S.left script.old) (S.left script.new) (K.held out.old) (K.held out.new) (files_told (F.told shelf.old)) (files_told (F.told shelf.new)) }
+    ensures script_read { ReadsToldAs (ended result) (S.left script.old) (S.left script.new) }
     ensures script_cause { HasFaultCause (S.faults script.old) (S.faults script.new) result Stop.ScriptFault }
     ensures out_cause { HasFaultCause (K.faults out.old) (K.faults out.new) result Stop.OutFault }
     ensures file_cause { HasFaultCause (F.faults shelf.old) (F.faults shelf.new) result Stop.FileFault }
@@ -113,7 +117,10 @@ fn run_script<S: Source, K: Sink, F: Shelf, L: Ledger>(
 {
     let mut buffer = zeros(alloc, PIECE)?;
     let mut run = Run::new(alloc, cap)?;
-    take_pieces(alloc, &mut run, &mut buffer, script, out, shelf, moves)
+    let result = take_pieces(alloc, &mut run, &mut buffer, script, out, shelf, moves);
+    // By a call, which is proved once for each type.
+    drop(run);
+    result
 }
 
 // Takes the pieces of the script one after the other, each into the buffer.
@@ -131,7 +138,8 @@ fn take_pieces<S: Source, K: Sink, F: Shelf, L: Ledger>(
     requires script_ready { IsTrue (S.ready script.old) }
     requires out_ready { IsTrue (K.ready out.old) }
     requires hand { F.hand shelf.old ≡ Hand.Nothing }
-    ensures runs { RunsToldAs run.old.state (ended result) (S.left script.old) (K.held out.old) (K.held out.new) (files_told (F.told shelf.old)) (files_told (F.told shelf.new)) }
+    ensures runs { RunsToldAs run.old.state (ended result) (S.left script.old) (S.left script.new) (K.held out.old) (K.held out.new) (files_told (F.told shelf.old)) (files_told (F.told shelf.new)) }
+    ensures script_read { ReadsToldAs (ended result) (S.left script.old) (S.left script.new) }
     ensures script_cause { HasFaultCause (S.faults script.old) (S.faults script.new) result Stop.ScriptFault }
     ensures out_cause { HasFaultCause (K.faults out.old) (K.faults out.new) result Stop.OutFault }
     ensures file_cause { HasFaultCause (F.faults shelf.old) (F.faults shelf.new) result Stop.FileFault }
@@ -158,6 +166,7 @@ fn room_for(taken: usize) -> usize
     ensures some { 0 < result }
     ensures piece { result ≤ PIECE }
     ensures limit { taken < 1073741824 → result ≤ 1073741824 - taken }
+    ensures one { 1073741824 ≤ taken → result ≡ 1 }
 {
     if taken < SCRIPT_LIMIT {
         PIECE.min(SCRIPT_LIMIT - taken)

@@ -1,9 +1,11 @@
+pub mod Answerable
 pub mod Appending
 pub mod Designs
 pub mod Fitting
 pub mod LeastPlaces
 pub mod Loads
 pub mod OtherRecords
+pub mod ReadFaults
 pub mod Readable
 pub mod SoundFields
 pub mod TechRecords

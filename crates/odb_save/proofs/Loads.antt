@@ -58,7 +58,7 @@ module _ (cap : ℕ) (bytes : List ℕ) where
   pub answer_of_read : (fault : ReadFault) → Fails fault (saved_in cap bytes) → IsLoadAnswer cap bytes (Err (of_read fault))
   answer_of_read fault h = answer_of_cause (of_read fault) (cause_of_read fault h)
 
-  loaded : (s : Saved) → AreBytes bytes → saved_in cap bytes ≡ Ok s → IsSoundDatabase (database_of cap s) → IsLoaded cap bytes (database_of cap s)
+  pub loaded : (s : Saved) → AreBytes bytes → saved_in cap bytes ≡ Ok s → IsSoundDatabase (database_of cap s) → IsLoaded cap bytes (database_of cap s)
   unfolding save_bytes content_bytes
   loaded s are e sound = record {
     sound = sound;

@@ -68,6 +68,10 @@ Loads cap bytes (Err fault) = HasLoadCause cap bytes fault
 abbrev pub HasOneAnswer : ℕ → List ℕ → Type 0
 HasOneAnswer cap bytes = (a b : Result Database LoadFault) → Loads cap bytes a → Loads cap bytes b → a ≡ b
 
+-- loading these bytes with this cap has an answer, as classical logic says it: not each one fails to be it
+abbrev pub HasAnAnswer : ℕ → List ℕ → Type 0
+HasAnAnswer cap bytes = ¬ ((answer : Result Database LoadFault) → ¬ (Loads cap bytes answer))
+
 -- ---- what calls say
 
 -- the answer is this very database, or that there is no memory

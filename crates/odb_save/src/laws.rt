@@ -1,8 +1,8 @@
-ghost use Rattle.std.specs.Prelude.{◌≡◌, List, ℕ, Ok, length};
+ghost use Rattle.std.specs.Prelude.{◌≡◌, ◌≤◌, List, ℕ, Ok, length};
 ghost use Rattle.block_store.specs.Database.{Database, IsSoundDatabase, empty_database};
 ghost use Rattle.odb_fields.specs.Bytes.{AreBytes};
 ghost use Rattle.odb_save.specs.Examples.{empty_saved, one_gate, one_gate_saved, one_net, one_net_saved};
-ghost use Rattle.odb_save.specs.Loading.{HasOneAnswer};
+ghost use Rattle.odb_save.specs.Loading.{HasAnAnswer, HasOneAnswer};
 ghost use Rattle.odb_save.specs.Save.{save_bytes};
 ghost use Rattle.odb_save.specs.Spelled.{database_of, spelled};
 ghost use Rattle.saved_reader.specs.Saved.{saved_in};
@@ -36,4 +36,10 @@ pub fn read_bytes_are_saved()
 /// Loading the same bytes with the same cap comes to one answer. It does nothing.
 pub fn loading_is_determined()
     ensures { (cap : ℕ) (bytes : List ℕ) → HasOneAnswer cap bytes }
+{}
+
+/// Loading bytes has an answer, want of memory aside: they spell a sound database, or there is a first fault. It does
+/// nothing.
+pub fn loading_has_an_answer()
+    ensures { (cap : ℕ) (bytes : List ℕ) → cap ≤ 16777215 → AreBytes bytes → HasAnAnswer cap bytes }
 {}

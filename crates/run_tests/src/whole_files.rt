@@ -1,10 +1,12 @@
+//! Files that are read and written whole, where calls fail.
+
 ghost use Rattle.std.specs.Prelude.{◌≡◌, IsTrue, OnOk};
 ghost use Rattle.std.specs.List.{list_all};
 ghost use Rattle.odb_outside.specs.Calls.{is_call_number};
 ghost use Rattle.odb_outside.specs.declared.shelf.Hand.TheVariants as hands;
 
-use super::*;
 use odb_outside::MemoryShelf;
+use shelf_files::{FileFault, FileRead, read_file, write_file};
 use std::alloc::Global;
 use std::process::Abort;
 use std::test::Fail;

@@ -1,6 +1,6 @@
 //! Scripts that read LEF texts.
 
-use super::files::run;
+use super::{plain, run};
 use std::alloc::Global;
 use std::process::Abort;
 use std::test::Fail;
@@ -12,7 +12,7 @@ struct Row {
     replies: &'static [u8],
 }
 
-const ROWS: [Row; 10] = [
+const ROWS: [Row; 11] = [
     // A site and a cell on it, with decimals that are rounded.
     Row {
         text: b"UNITS DATABASE MICRONS 1000 ; END UNITS SITE s CLASS CORE ; SIZE 0.46 BY 2.72 ; END s MACRO m ORIGIN -0.0005 0.0004 ; SITE s ; SIZE 1.38 BY 2.72 ; END m END LIBRARY",
@@ -58,6 +58,12 @@ const ROWS: [Row; 10] = [
         script: b"read_lef f\neco_begin\nread_lef f\nread_lef g\neco_undo\nread_lef g\n",
         replies: b"refused 27 LefText 2 OpenQuote\nok\nrefused 24 WrongState Open\nrefused 24 WrongState Open\nok 0\nrefused 25 NoFile\n",
     },
+    // The word of an orientation names no via, so it is no name.
+    Row {
+        text: b"VIA N END N",
+        script: b"read_lef f\n",
+        replies: b"refused 27 LefText 1 BadName\n",
+    },
     // The lines that enter parts.
     Row {
         text: b"",
@@ -73,8 +79,8 @@ const ROWS: [Row; 10] = [
 ];
 
 fn answers(rt: &impl Abort, alloc: Global, row: &Row) -> Result<(), Fail> {
-    let (_, replies, _) = run(alloc, &[], row.script, row.text, Vec::new(alloc))?;
-    assert!(rt; replies.as_slice() == row.replies);
+    let outcome = run(alloc, plain(1000), row.script, row.text)?;
+    assert!(rt; outcome.replies.as_slice() == row.replies);
     Ok(())
 }
 

@@ -1,6 +1,6 @@
 //! Scripts with their replies.
 
-use crate::Status;
+use odb_run::Status;
 
 /// What `save -` shows at the end of a script.
 #[derive(Clone, Copy)]
@@ -19,7 +19,7 @@ pub struct Row {
 }
 
 // Each with ample memory, so none of them ends for want of it.
-pub const ROWS: [Row; 24] = [
+pub const ROWS: [Row; 26] = [
     Row {
         script: b"",
         replies: b"",
@@ -185,6 +185,20 @@ pub const ROWS: [Row; 24] = [
         script: b"load nofile\nnew_net a\neco_begin\nload f\nsave f\neco_undo\nload f\nload f.2\nsave -\n",
         replies: b"refused 25 NoFile\nok 1 1 0 0 0\nok\nrefused 24 WrongState Open\nok 176\nok 0\nok 176\nrefused 25 NoFile\n",
         saved: Saved::OneNet,
+        status: Status::Refused,
+    },
+    // Coordinates are at most 2,000,000,000, a number has at most 18 digits, and an identifier 32 bits.
+    Row {
+        script: b"master M 1 1\nnew_inst i M\nplace inst 1 PLACED 2000000000 -2000000000 N\nplace inst 1 PLACED 2000000001 0 N\nplace inst 1 PLACED 0 -2000000001 N\nplace inst 1 PLACED 999999999999999999 0 N\nplace inst 1 PLACED 1000000000000000000 0 N\nplace inst 1 PLACED 0 -999999999999999999 N\nplace inst 1 PLACED 0 -1000000000000000000 N\ndestroy net 4294967295\ndestroy net 4294967296\n",
+        replies: b"ok 1\nok 1 1 0 0 0\nok 0 1 0 0 0\nrefused 3 BadValue 4\nrefused 3 BadValue 5\nrefused 3 BadValue 4\nrefused 22 BadWords\nrefused 3 BadValue 5\nrefused 22 BadWords\nrefused 2 NotLive net 4294967295\nrefused 22 BadWords\n",
+        saved: Saved::Nothing,
+        status: Status::Refused,
+    },
+    // Units are at most 100,000, and the sizes of a master and of a site 2,000,000,000.
+    Row {
+        script: b"units 100001\nunits 100000\nmaster M 2000000000 -2000000000\nmaster N 2000000001 0\nsite s CORE 2000000000 -2000000000\nsite t CORE 0 -2000000001\n",
+        replies: b"refused 28 LefBuild BadPart 1\nok 0\nok 1\nrefused 28 LefBuild BadPart 1\nok 1\nrefused 28 LefBuild BadPart 1\n",
+        saved: Saved::Nothing,
         status: Status::Refused,
     },
 ];

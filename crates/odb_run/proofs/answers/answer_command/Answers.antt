@@ -14,6 +14,7 @@ returns-in_ok-answer_in_session-in_default g c =
     let any_refused = c.in_ok-answer_in_session-in_default.field-0 in
     record {
       gives = session_told old new before after any_refused (λ m a. IsCommandAnswer m c.args.command a) told told refl c.in_ok-answer_in_session-in_default.ensures;
+      failed = λ e. absurd (cc e);
       hand = c.requires;
       cause = record { later = omega arith; failed = λ e. absurd (cc e) };
     }

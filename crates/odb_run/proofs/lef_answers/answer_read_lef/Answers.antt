@@ -8,4 +8,4 @@ returns-clause-gives g c =
     let shelf = g.F.Shelf in
     let told = shelf.told c.args.shelf.now in
     let reads = subst (λ (name : List ℕ). Reads told name c.in_ok-read.read) c.as_str.ensures c.in_ok-read.ensures.reads in
-    lef_told c.args.session.now c.answer_read.new.session c.args.replies.now.items c.answer_read.new.replies.items c.in_ok-answer_read.field-0 told (shelf.told c.read_lef_file.new.shelf) c.args.file.now c.in_ok-read.read (c.if-not-is_without_eco.ensures.0 refl) reads c.in_ok-read.ensures.files c.in_ok-answer_read.ensures
+    lef_told c.args.session.now c.answer_read.new.session c.args.replies.now.items c.answer_read.new.replies.items c.in_ok-answer_read.field-0 told (shelf.told c.read_lef_file.new.shelf) c.args.file c.in_ok-read.read (c.if-not-is_without_eco.ensures.0 refl) reads c.in_ok-read.ensures.files c.in_ok-answer_read.ensures

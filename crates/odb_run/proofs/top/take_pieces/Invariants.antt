@@ -2,7 +2,7 @@
 use Rattle.std.proofs.Common.{◌≡◌, ◌-◌, ◌≤◌, IsTrue}
 use Rattle.odb_outside.specs.Shelves.{files_told}
 use Rattle.odb_outside.specs.declared.shelf.Hand.TheVariants as hand
-use Rattle.odb_run.specs.Running.{Counts, Within}
+use Rattle.odb_run.specs.Running.{IsBetween, Takes, Within}
 use Rattle.odb_run.proofs.top.take_pieces.Given as goal
 
 abbrev pub invariant-pieces : goal.invariant-pieces
@@ -18,7 +18,8 @@ invariant-pieces g l =
       out_later : sink.faults l.initial.out ≤ sink.faults l.out;
       file_later : shelf.faults l.initial.shelf ≤ shelf.faults l.shelf;
       limit : l.taken ≤ 1073741824;
-      counts : Counts (source.left l.initial.script) (source.left l.script) l.taken;
+      takes : Takes (source.left l.initial.script) (source.left l.script) l.taken;
+      between : IsBetween l.run;
       within : Within l.initial.run.state (source.left l.initial.script) (source.left l.script) (sink.held l.initial.out) (sink.held l.out) (files_told (shelf.told l.initial.shelf)) l.run (files_told (shelf.told l.shelf)) l.taken;
     }
 
