@@ -1,11 +1,9 @@
 -- A sound machine has an answer to each line, and so to the rest of a script.
-use Rattle.std.proofs.Common.{◌≡◌, ◌≤◌, ◌++◌, Bool, true, false, List, [], ◌∷◌, ℕ, Option, None, Some, Result, Ok, Err, length, nat_lt, refl, subst, sym}
+use Rattle.std.proofs.Common.{◌≡◌, ◌≤◌, Bool, true, false, List, [], ◌∷◌, ℕ, Option, None, Some, Ok, Err, length, nat_lt, refl, subst, sym}
 use Rattle.odb_outside.specs.Files.{File, file_of}
-use Rattle.edit_words.specs.declared.part.TechPart.TheVariants as part
 use Rattle.block_store.proofs.Databases.{sound_database}
-use Rattle.odb_save.specs.Loading.{HasAnAnswer, Loads}
+use Rattle.odb_save.specs.Loading.{HasAnAnswer}
 use Rattle.odb_save.proofs.Answerable.{has_an_answer}
-use Rattle.reports.specs.declared.query.Query.TheVariants as query
 use Rattle.script_words.specs.Commands.{Request, request_of}
 use Rattle.script_words.specs.declared.command_words.Command.{Command}
 use Rattle.script_words.specs.declared.command_words.Command.TheVariants as command

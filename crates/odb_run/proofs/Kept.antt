@@ -1,5 +1,5 @@
 -- Each answer leaves the machine sound.
-use Rattle.std.proofs.Common.{◌≡◌, Bool, true, false, List, [], ◌∷◌, ℕ, Option, None, Some, Result, Ok, Err, IfSome, length, nat_lt, refl, sym, ap, subst, ◌∙◌, option_map}
+use Rattle.std.proofs.Common.{◌≡◌, ◌+◌, Bool, true, false, List, [], ◌∷◌, ℕ, Option, None, Some, Result, Ok, Err, IfSome, length, nat_lt, refl, sym, ap, subst, ◌∙◌, option_map}
 use Rattle.std.specs.Ordering.{match_ordering, nat_cmp}
 use Rattle.std.specs.Cmp.Lexicographic.{slice_cmp}
 use Rattle.std.specs.declared.cmp.Ordering.{Ordering}
@@ -18,7 +18,7 @@ use Rattle.block_store.specs.Sound.{IsSound}
 use Rattle.block_store.proofs.Databases.{sound_with_layer, sound_with_master, sound_with_site, sound_with_units, sound_with_via}
 use Rattle.block_steps.proofs.Soundness.{sound_step}
 use Rattle.steps_net.specs.Do.{do_all, do_step}
-use Rattle.edits.specs.Plan.{CanAll, plan}
+use Rattle.edits.specs.Plan.{CanAll}
 use Rattle.edits.proofs.Planned.{planned_can}
 use Rattle.lef_build.specs.Building.{built_of}
 use Rattle.lef_build.specs.declared.fault.BuildFault.{BuildFault}
@@ -31,6 +31,7 @@ use Rattle.odb_save.specs.Save.{save_bytes}
 use Rattle.odb_save.specs.declared.load_fault.LoadFault.{LoadFault}
 use Rattle.reports.specs.Reports.{report_of}
 use Rattle.reports.specs.declared.query.Query.{Query}
+use Rattle.reports.specs.declared.query.Query.TheVariants as query
 use Rattle.reports.specs.declared.query.ReportFault.{ReportFault}
 use Rattle.script_words.specs.Commands.{Request, request_of}
 use Rattle.script_words.specs.declared.command_words.Command.{Command}
@@ -39,7 +40,7 @@ use Rattle.tech_parts.specs.Adding.{added_by, cause_of, goes_on, with_part, with
 use Rattle.tech_parts.specs.declared.fault.PartCause.{PartCause}
 use Rattle.tech_parts.specs.declared.fault.PartFault.{PartFault}
 use Rattle.tech_parts.proofs.Causes.{layer_may, master_may, site_may, units_are_few, via_may}
-use Rattle.odb_run.specs.Answering.{Answered, IsAnswer, IsAnswerUnless, IsCommandAnswer, IsLoadFrom, IsLoadOf, IsLoadReply, IsLoadUnless, IsRequestAnswer, Machine, built_answer, in_state, lef_answer, lef_file_answer, load_answer, machine, read_lef_answer, save_to_answer}
+use Rattle.odb_run.specs.Answering.{Answered, IsAnswer, IsAnswerUnless, IsCommandAnswer, IsLoadFrom, IsLoadOf, IsLoadReply, IsLoadUnless, IsRequestAnswer, Machine, built_answer, in_state, lef_answer, lef_file_answer, load_answer, read_lef_answer, save_to_answer}
 use Rattle.odb_run.specs.Laws.{AreLoadable, IsSoundCopy, IsSoundMachine, IsSoundState}
 use Rattle.odb_run.specs.Machine.{Answer, Kept, State, after_edit, begin_answer, edit_answer, edit_answer_by, noted, part_answer, parts_answer, plan_in, report_answer, report_answer_by, undo_answer}
 use Rattle.odb_run.specs.Replies.{added_text}
@@ -101,7 +102,7 @@ sound_parts before [] d new sound added =
     (subst IsSoundDatabase same sound, ap (λ (x : Database). x.cap) (sym same))
 sound_parts before (p ∷ parts) d new sound added =
     let went = went_on _ (cause_of d p) _ new added in
-    let rest = sound_parts _ parts (with_part p d) new (sound_part d p sound went.0) went.1 in
+    let rest = sound_parts (before + 1) parts (with_part p d) new (sound_part d p sound went.0) went.1 in
     (rest.0, rest.1 ∙ same_cap d p)
 
 after_parts : (cap : ℕ) (s : State) (text : Database → List ℕ) (parts : List TechPart) (added : Result Database PartFault) → with_parts 0 parts s.database ≡ added → IsSoundState cap s → IsSoundState cap (parts_answer s text added).state
@@ -177,7 +178,9 @@ load_keeps cap m count bytes (Err why) is loads = is
 
 built_keeps : (cap : ℕ) (m : Machine) (built : Result Parts BuildFault) → IsSoundMachine cap m → IsSoundMachine cap (built_answer m built).machine
 built_keeps cap m (Ok p) is =
-    in_state_keeps cap m _ is (after_parts cap m.state (λ d. added_text p.passed (added_by p.parts m.state.database d)) p.parts (with_parts 0 p.parts m.state.database) refl is.state)
+    let text : Database → List ℕ = λ d. added_text p.passed (added_by p.parts m.state.database d) in
+    let added = with_parts 0 p.parts m.state.database in
+    in_state_keeps cap m (parts_answer m.state text added) is (after_parts cap m.state text p.parts added refl is.state)
 built_keeps cap m (Err why) is = is
 
 lef_keeps : (cap : ℕ) (m : Machine) (read : LefFileRead) → IsSoundMachine cap m → IsSoundMachine cap (lef_answer m read).machine
@@ -197,6 +200,10 @@ read_lef_keeps cap m name (Some kept) is = is
 by : (cap : ℕ) (a b : Answered) → a ≡ b → IsSoundMachine cap b.machine → IsSoundMachine cap a.machine
 by cap a b same is = subst (λ (x : Answered). IsSoundMachine cap x.machine) (sym same) is
 
+-- the answer touches no file
+by_state : (cap : ℕ) (m : Machine) (answer : Answer) (a : Answered) → a ≡ in_state m answer → IsSoundMachine cap m → IsSoundState cap answer.state → IsSoundMachine cap a.machine
+by_state cap m answer a same is state = by cap a (in_state m answer) same (in_state_keeps cap m answer is state)
+
 load_of_keeps : (cap : ℕ) (m : Machine) (bytes : List ℕ) (a : Answered) → IsSoundMachine cap m → IsLoadOf m bytes a → IsSoundMachine cap a.machine
 load_of_keeps cap m bytes a is answer = by cap a _ answer.is (load_keeps cap m (length bytes) bytes answer.result is answer.loads)
 
@@ -213,22 +220,22 @@ load_reply_keeps cap m name None a is answer = load_from_keeps cap m (file_of na
 load_reply_keeps cap m name (Some kept) a is answer = by cap a _ answer is
 
 command_keeps : (cap : ℕ) (m : Machine) (c : Command) (a : Answered) → IsSoundMachine cap m → IsCommandAnswer m c a → IsSoundMachine cap a.machine
-command_keeps cap m (command.Edit edit) a is answer = by cap a _ answer (in_state_keeps cap m _ is (edit_keeps cap m.state edit is.state))
-command_keeps cap m (command.Units n) a is answer = by cap a _ answer (in_state_keeps cap m _ is (part_keeps cap m.state (part.Units n) m.state.eco is.state))
-command_keeps cap m (command.Layer l) a is answer = by cap a _ answer (in_state_keeps cap m _ is (part_keeps cap m.state (part.Layer l) m.state.eco is.state))
-command_keeps cap m (command.Site s) a is answer = by cap a _ answer (in_state_keeps cap m _ is (part_keeps cap m.state (part.Site s) m.state.eco is.state))
-command_keeps cap m (command.Master x) a is answer = by cap a _ answer (in_state_keeps cap m _ is (part_keeps cap m.state (part.Master x) m.state.eco is.state))
+command_keeps cap m (command.Edit edit) a is answer = by_state cap m (edit_answer m.state edit) a answer is (edit_keeps cap m.state edit is.state)
+command_keeps cap m (command.Units n) a is answer = by_state cap m (part_answer m.state (part.Units n) m.state.eco) a answer is (part_keeps cap m.state (part.Units n) m.state.eco is.state)
+command_keeps cap m (command.Layer l) a is answer = by_state cap m (part_answer m.state (part.Layer l) m.state.eco) a answer is (part_keeps cap m.state (part.Layer l) m.state.eco is.state)
+command_keeps cap m (command.Site s) a is answer = by_state cap m (part_answer m.state (part.Site s) m.state.eco) a answer is (part_keeps cap m.state (part.Site s) m.state.eco is.state)
+command_keeps cap m (command.Master x) a is answer = by_state cap m (part_answer m.state (part.Master x) m.state.eco) a answer is (part_keeps cap m.state (part.Master x) m.state.eco is.state)
 command_keeps cap m (command.ReadLef name) a is answer = by cap a _ answer (read_lef_keeps cap m name m.state.eco is)
-command_keeps cap m (command.Find k name) a is answer = by cap a _ answer (in_state_keeps cap m _ is (report_keeps cap m.state _ is.state))
-command_keeps cap m (command.List k) a is answer = by cap a _ answer (in_state_keeps cap m _ is (report_keeps cap m.state _ is.state))
-command_keeps cap m (command.Free k) a is answer = by cap a _ answer (in_state_keeps cap m _ is (report_keeps cap m.state _ is.state))
-command_keeps cap m command.Counts a is answer = by cap a _ answer (in_state_keeps cap m _ is (report_keeps cap m.state _ is.state))
-command_keeps cap m (command.Terms net) a is answer = by cap a _ answer (in_state_keeps cap m _ is (report_keeps cap m.state _ is.state))
+command_keeps cap m (command.Find k name) a is answer = by_state cap m (report_answer m.state (query.Find k name)) a answer is (report_keeps cap m.state (query.Find k name) is.state)
+command_keeps cap m (command.List k) a is answer = by_state cap m (report_answer m.state (query.List k)) a answer is (report_keeps cap m.state (query.List k) is.state)
+command_keeps cap m (command.Free k) a is answer = by_state cap m (report_answer m.state (query.Free k)) a answer is (report_keeps cap m.state (query.Free k) is.state)
+command_keeps cap m command.Counts a is answer = by_state cap m (report_answer m.state query.Counts) a answer is (report_keeps cap m.state query.Counts is.state)
+command_keeps cap m (command.Terms net) a is answer = by_state cap m (report_answer m.state (query.Terms net)) a answer is (report_keeps cap m.state (query.Terms net) is.state)
 command_keeps cap m (command.Save name) a is answer = by cap a _ answer (save_keeps cap m name is)
 command_keeps cap m command.SaveShown a is answer = by cap a _ answer is
 command_keeps cap m (command.Load name) a is answer = load_reply_keeps cap m name m.state.eco a is answer
-command_keeps cap m command.EcoBegin a is answer = by cap a _ answer (in_state_keeps cap m _ is (begin_keeps cap m.state m.state.eco is.state))
-command_keeps cap m command.EcoUndo a is answer = by cap a _ answer (in_state_keeps cap m _ is (undo_keeps cap m.state m.state.eco is.state.copy is.state))
+command_keeps cap m command.EcoBegin a is answer = by_state cap m (begin_answer m.state m.state.eco) a answer is (begin_keeps cap m.state m.state.eco is.state)
+command_keeps cap m command.EcoUndo a is answer = by_state cap m (undo_answer m.state m.state.eco) a answer is (undo_keeps cap m.state m.state.eco is.state.copy is.state)
 
 request_keeps : (cap : ℕ) (m : Machine) (r : Request) (a : Answered) → IsSoundMachine cap m → IsRequestAnswer m r a → IsSoundMachine cap a.machine
 request_keeps cap m (Ok None) a is answer = by cap a _ answer is

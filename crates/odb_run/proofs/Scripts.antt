@@ -5,16 +5,15 @@ use Rattle.odb_outside.specs.Files.{File}
 use Rattle.odb_outside.specs.Reading.{Reads}
 use Rattle.odb_outside.specs.Writing.{Grows}
 use Rattle.odb_outside.specs.declared.fault.Failed.{Failed}
-use Rattle.script_words.specs.Commands.{request_of}
 use Rattle.odb_run.proofs.Answering.{after-append, answers-append, refusal-append}
 use Rattle.odb_run.proofs.LineLemmas.{lines-ended}
-use Rattle.odb_run.proofs.Runs.{gone_none, gone_then, leads_grows, leads_none, more_led, prefix_none}
+use Rattle.odb_run.proofs.Runs.{gone_none, gone_then, leads_grows, more_led, prefix_none}
 use Rattle.odb_run.proofs.Stopping.{gone_stopped, stopped_here}
-use Rattle.odb_run.specs.Answering.{Answered, AreAnswers, NamesFile, has_refusal, machine, machine_after, replies_of}
-use Rattle.odb_run.specs.Headline.{IsReadToFault, IsReadToLimit, Ran, RanThrough, RanToFile, ReadsToldAs, RunsToldAs}
-use Rattle.odb_run.specs.Lines.{ended_lines, lines_of}
+use Rattle.odb_run.specs.Answering.{Answered, AreAnswers, has_refusal, machine, machine_after, replies_of}
+use Rattle.odb_run.specs.Headline.{IsReadToLimit, Ran, RanThrough, RanToFile, ReadsToldAs, RunsToldAs}
+use Rattle.odb_run.specs.Lines.{lines_of}
 use Rattle.odb_run.specs.Machine.{State}
-use Rattle.odb_run.specs.Running.{BeginsAt, Finishes, Goes, IsBetween, IsFinished, IsGone, IsStopped, IsTaken, IsWithin, Leads, Running, Stops, StopsLast, Takes, Within, ended, first_run, status_of}
+use Rattle.odb_run.specs.Running.{BeginsAt, Finishes, Goes, IsBetween, IsFinished, IsStopped, IsTaken, IsWithin, Leads, Running, Stops, StopsLast, Takes, Within, ended, first_run, status_of}
 use Rattle.odb_run.specs.Told.{IfTold}
 use Rattle.odb_run.specs.declared.status.Status.TheVariants as status
 use Rattle.odb_run.specs.declared.stop.Stop.{Stop}

@@ -1,5 +1,5 @@
 -- How a run stops before the end of its script.
-use Rattle.std.proofs.Common.{◌≡◌, ◌++◌, false, List, [], ◌∷◌, ℕ, Option, None, Some, Result, Ok, Err, IfErr, OnErr, refl, sym, ap, subst, ◌∙◌, append_assoc, append-nil}
+use Rattle.std.proofs.Common.{◌≡◌, ◌++◌, false, List, [], ◌∷◌, ℕ, Option, None, Some, Result, Err, IfErr, refl, sym, ap, subst, ◌∙◌, append_assoc, append-nil}
 use Rattle.odb_outside.specs.Files.{File}
 use Rattle.odb_outside.specs.Writing.{GrowsByPrefix}
 use Rattle.odb_outside.specs.declared.fault.WriteFault.{WriteFault}
@@ -8,7 +8,6 @@ use Rattle.shelf_files.specs.declared.fault.FileFault.{FileFault}
 use Rattle.shelf_files.specs.declared.fault.FileFault.TheVariants as file
 use Rattle.odb_run.proofs.Answering.{answers-append}
 use Rattle.odb_run.proofs.Runs.{ended_first, leads_grows, leads_prefix, more_led, prefix_none, told_first}
-use Rattle.odb_run.specs.Answering.{machine_after, replies_of}
 use Rattle.odb_run.specs.Lines.{has_line_end, lines_of}
 use Rattle.odb_run.specs.Running.{BeginsAt, EndsLast, FailsAt, Gains, Goes, IsGone, IsLast, IsStopFor, IsStopped, Leads, Running, Stops, StopsLast, machine_of, stop_of}
 use Rattle.odb_run.specs.Told.{IfTold, WhereTold}

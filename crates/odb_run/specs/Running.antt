@@ -1,6 +1,6 @@
 -- What holds between two pieces of a script. The contracts of the parts of a run cite this module; that of
 -- the whole run doesn't.
-use Rattle.std.specs.Prelude.{◌≡◌, ◌≤◌, ◌+◌, ◌||◌, Bool, true, false, List, [], ◌∷◌, ◌++◌, ℕ, Option, None, Some, Result, Ok, Err, ⊤, IsErrOf, length}
+use Rattle.std.specs.Prelude.{◌≡◌, ◌≤◌, ◌||◌, Bool, true, false, List, [], ◌∷◌, ◌++◌, ℕ, Option, None, Some, Result, Ok, Err, ⊤, IsErrOf, length}
 use Rattle.odb_outside.specs.Files.{File}
 use Rattle.odb_outside.specs.Outside.{Rose}
 use Rattle.odb_outside.specs.Writing.{Grows, GrowsByPrefix}

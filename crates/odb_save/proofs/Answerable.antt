@@ -1,6 +1,6 @@
 -- Loading bytes has an answer: they spell a sound database, or there is a first fault. It is there as in classical logic:
 -- not each answer fails to be it.
-use Rattle.std.proofs.Common.{◌≡◌, ◌≤◌, ◌<◌, ◌+◌, ◌⊎◌, List, ℕ, zero, suc, Option, Some, None, Result, Ok, Err, get_or, inl, inr, refl, subst, sym, ◌∙◌, arith, lit≤}
+use Rattle.std.proofs.Common.{◌≡◌, ◌≤◌, ◌<◌, ◌+◌, ◌⊎◌, List, ℕ, zero, suc, Option, Some, None, Result, Ok, Err, get_or, inl, inr, refl, subst, arith, lit≤}
 use Rattle.std.proofs.lemmas.Bool.{cases_lt}
 use Rattle.odb_base.specs.Kind.{kind_code, kinds}
 use Rattle.odb_base.specs.declared.codes.kind.Kind.{Kind}
@@ -8,7 +8,7 @@ use Rattle.odb_base.specs.declared.codes.kind.Kind.TheVariants as kind
 use Rattle.odb_fields.specs.Bytes.{AreBytes}
 use Rattle.library.specs.declared.master.Master.{Master}
 use Rattle.block_store.specs.Block.{Block, slots_in}
-use Rattle.block_store.specs.Database.{Database, IsSoundDatabase}
+use Rattle.block_store.specs.Database.{IsSoundDatabase}
 use Rattle.block_tables.specs.Places.{IsFirstFault, IsLeastInKind}
 use Rattle.block_tables.specs.Rules.{IsSoundHeader, IsSoundKind, IsSoundRecord, IsSoundTable}
 use Rattle.block_tables.proofs.Beyond.{at_zero, past_slots}
@@ -18,10 +18,9 @@ use Rattle.saved_reader.specs.declared.fault.ReadFault.{ReadFault}
 use Rattle.saved_reader.specs.declared.fault.ReadFault.TheVariants as read
 use Rattle.saved_reader.specs.declared.saved.Saved.{Saved}
 use Rattle.saved_reader.specs.Saved.{saved_in}
-use Rattle.odb_save.specs.declared.load_fault.LoadFault.{LoadFault}
 use Rattle.odb_save.specs.declared.load_fault.LoadFault.TheVariants as load
 use Rattle.odb_save.specs.Design.{IsDesign}
-use Rattle.odb_save.specs.Loading.{HasAnAnswer, IsLeastUnsound, Loads}
+use Rattle.odb_save.specs.Loading.{HasAnAnswer, IsLeastUnsound}
 use Rattle.odb_save.specs.Spelled.{database_of}
 use Rattle.odb_save.proofs.Loads.{loaded}
 use Rattle.odb_save.proofs.ReadFaults.{ReadsBytes, saved_reads}

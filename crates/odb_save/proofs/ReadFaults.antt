@@ -1,5 +1,5 @@
 -- What reading says is at fault is a fault of the bytes: no definition answers that there is no memory.
-use Rattle.std.proofs.Common.{◌≡◌, Bool, true, false, eqb, List, [], ℕ, ℤ, zero, suc, pos, Option, Some, None, Result, Ok, Err, codes, inl, inr, length, nat_lt}
+use Rattle.std.proofs.Common.{Bool, true, false, eqb, List, [], ℕ, ℤ, zero, suc, pos, Option, Some, None, Result, Ok, Err, codes, inl, inr, length, nat_lt}
 use Rattle.std.proofs.lemmas.Bool.{cases_Bool}
 use Rattle.std.specs.Str.{bytes_eq}
 use Rattle.odb_base.specs.Direction.{direction_code, directions}

@@ -1,12 +1,7 @@
-use Rattle.std.proofs.Common.{◌≡◌, ◌<◌, ◌≤◌, ◌+◌, ◌^◌, ◌∙◌, Err, Ok, ap, refl, subst, sym, take, length, length-take, arith}
+use Rattle.std.proofs.Common.{◌≡◌, ◌<◌, ◌≤◌, ◌+◌, ◌∙◌, Err, ap, refl, length, length-take, arith}
 use Rattle.std.proofs.lemmas.Result.{err_from_is_err_and}
-use Rattle.odb_outside.specs.Reading.{Reads}
 use Rattle.odb_outside.specs.Shelves.{files_told}
-use Rattle.odb_outside.specs.declared.fault.Failed.{Failed}
 use Rattle.odb_run.proofs.Scripts.{read_finished, read_in_part, read_to_fault, read_to_limit, runs_err, runs_finished, runs_to_fault, runs_too_long, takes_first, takes_much, takes_next, within_first, within_next}
-use Rattle.odb_run.specs.Headline.{ReadsToldAs}
-use Rattle.odb_run.specs.Running.{ended, status_of}
-use Rattle.odb_run.specs.declared.stop.Stop.{Stop}
 use Rattle.odb_run.proofs.top.take_pieces.Goals as goal
 
 pub pieces-init : goal.pieces-init
