@@ -1,5 +1,5 @@
 use odb_fields::{Cut, Get, Put};
-use std::alloc::AllocError;
+use std::alloc::{AllocError, Global};
 use std::process::Abort;
 use std::test::Fail;
 
@@ -56,21 +56,27 @@ fn fields_and_their_bytes(rt: HostRuntime) -> Result<(), Fail> {
         (Field::Text(b"net"), b"\x03\x00\x00\x00net"),
     ];
     for (field, bytes) in rows.iter() {
-        let mut out = vec![in rt.alloc(); b'<']?;
-        put(&rt, &mut Put::new(&mut out), *field)?;
-        out.push(b'>')?;
-        let written = out.as_slice();
-        assert!(rt; written.first() == Some(&b'<') && written.last() == Some(&b'>'));
-        assert!(rt; written[1..].starts_with(*bytes) && written.len() == bytes.len() + 2);
-
-        let mut input = Get::new(written);
-        assert_eq!(rt; input.get_u8(), Ok(b'<'));
-        assert_eq!(rt; get(&mut input, *field), Ok(*field));
-        assert_eq!(rt; input.place(), bytes.len() as u64 + 1);
-        assert_eq!(rt; input.get_u8(), Ok(b'>'));
+        let written = between_marks(&rt, rt.alloc(), *field)?;
+        assert!(rt; written.len() == bytes.len() + 2 && written[1..].starts_with(*bytes));
+        is_read_back(&rt, &written, *field, bytes.len() as u64 + 1);
         cut_at_every_length(&rt, *field, *bytes);
     }
     Ok(())
+}
+
+fn between_marks(rt: &impl Abort, alloc: Global, field: Field<'_>) -> Result<Vec<u8>, AllocError> {
+    let mut out = vec![in alloc; b'<']?;
+    put(rt, &mut Put::new(&mut out), field)?;
+    out.push(b'>')?;
+    Ok(out)
+}
+
+fn is_read_back(rt: &impl Abort, written: &[u8], field: Field<'_>, end: u64) {
+    let mut input = Get::new(written);
+    assert_eq!(rt; input.get_u8(), Ok(b'<'));
+    assert_eq!(rt; get(&mut input, field), Ok(field));
+    assert_eq!(rt; (input.place(), input.get_u8()), (end, Ok(b'>')));
+    assert_eq!(rt; input.place(), written.len() as u64);
 }
 
 // No front of a field's bytes is the field, and after each cut its first byte is still to be read.

@@ -6,6 +6,7 @@ use name_index::{ChainCells, NameIndex};
 use odb_base::{Steps, Text};
 use std::alloc::{AllocError, Global};
 use std::marker::{Brand, Model};
+use std::process::Abort;
 use std::sync::ledger::{Blank, Ledger};
 use std::test::Fail;
 
@@ -175,7 +176,6 @@ fn names_are_held_and_dropped(rt: HostRuntime) -> Result<(), Fail> {
     for name in [b"a".as_slice(), b"b", b"a", b"ab", b""] {
         cells.push((Text::new(alloc, name)?, 0))?;
     }
-    let mut table = Table::new(alloc, cells);
     let rows: [Row; 11] = [
         (Edit::Hold(1), true, [Some(1), None, None, None]),
         (Edit::Hold(3), false, [Some(1), None, None, None]),
@@ -189,10 +189,10 @@ fn names_are_held_and_dropped(rt: HostRuntime) -> Result<(), Fail> {
         (Edit::Release(2), true, [Some(3), None, Some(4), Some(5)]),
         (Edit::Release(5), true, [Some(3), None, Some(4), None]),
     ];
-    assert_eq!(rt;
-        right_rows::<Brand>(&mut table, &rows, Blank::new(1))?,
-        rows.len()
-    );
+    let mut table = Table::new(alloc, cells);
+    let right = right_rows::<Brand>(&mut table, &rows, Blank::new(1));
+    drop(table);
+    assert_eq!(rt; right?, rows.len());
     Ok(())
 }
 
@@ -261,13 +261,16 @@ fn release_even<L: Ledger>(table: &mut Table, last: u32, blank: Blank) -> Option
 fn a_thousand_names(rt: HostRuntime) -> Result<(), Fail> {
     let alloc = rt.alloc();
     let mut table = numbered(alloc, 1000)?;
-    assert_eq!(rt; hold_all::<Brand>(&mut table, 1000, Blank::new(1))?, None);
-    assert_eq!(rt; first_wrong(alloc, &table, 1000, false)?, None);
-    assert_eq!(rt;
-        release_even::<Brand>(&mut table, 1000, Blank::new(1)),
-        None
-    );
-    assert_eq!(rt; first_wrong(alloc, &table, 1000, true)?, None);
+    let found = found_as_held(&rt, alloc, &mut table);
+    drop(table);
+    found
+}
+
+fn found_as_held(rt: &impl Abort, alloc: Global, table: &mut Table) -> Result<(), Fail> {
+    assert_eq!(rt; hold_all::<Brand>(table, 1000, Blank::new(1))?, None);
+    assert_eq!(rt; first_wrong(alloc, table, 1000, false)?, None);
+    assert_eq!(rt; release_even::<Brand>(table, 1000, Blank::new(1)), None);
+    assert_eq!(rt; first_wrong(alloc, table, 1000, true)?, None);
     assert_eq!(rt; table.find(b"net1001"), None);
     Ok(())
 }

@@ -9,96 +9,35 @@ use std::test::Fail;
 #[test]
 fn limits_and_one_beyond(rt: HostRuntime) -> Result<(), Fail> {
     let alloc = rt.alloc();
+    let longest = is_name(alloc, 4095)?;
+    let too_long = is_name(alloc, 4096)?;
     let rows = [
-        (
-            "bytes of a name",
-            is_name(alloc, 4095)?,
-            is_name(alloc, 4096)?,
-        ),
-        (
-            "fewest bytes of a name",
-            is_name(alloc, 1)?,
-            is_name(alloc, 0)?,
-        ),
+        ("bytes of a name", (longest, too_long)),
         (
             "slots of a pool",
-            has_room(alloc, 3, 3),
-            has_room(alloc, 3, 4),
+            (has_room(alloc, 3, 3), has_room(alloc, 3, 4)),
         ),
         (
             "slots of a pool of none",
-            has_room(alloc, 0, 0),
-            has_room(alloc, 0, 1),
+            (has_room(alloc, 0, 0), has_room(alloc, 0, 1)),
         ),
-        (
-            "direction",
-            has_code::<Direction>(5),
-            has_code::<Direction>(6),
-        ),
-        ("kind", has_code::<Kind>(12), has_code::<Kind>(13)),
-        ("least kind", has_code::<Kind>(1), has_code::<Kind>(0)),
-        (
-            "layer direction",
-            has_code::<LayerDirection>(2),
-            has_code::<LayerDirection>(3),
-        ),
-        (
-            "layer type",
-            has_code::<LayerType>(5),
-            has_code::<LayerType>(6),
-        ),
-        ("orientation", has_code::<Orient>(7), has_code::<Orient>(8)),
-        ("owner", has_code::<Owner>(8), has_code::<Owner>(9)),
-        ("least owner", has_code::<Owner>(1), has_code::<Owner>(0)),
-        (
-            "placement",
-            has_code::<PlaceStatus>(3),
-            has_code::<PlaceStatus>(4),
-        ),
-        (
-            "type of a property",
-            has_code::<PropType>(3),
-            has_code::<PropType>(4),
-        ),
-        (
-            "least type of a property",
-            has_code::<PropType>(1),
-            has_code::<PropType>(0),
-        ),
-        (
-            "type of a region",
-            has_code::<RegionType>(2),
-            has_code::<RegionType>(3),
-        ),
-        (
-            "form of a row",
-            has_code::<RowForm>(2),
-            has_code::<RowForm>(3),
-        ),
-        (
-            "class of a site",
-            has_code::<SiteClass>(2),
-            has_code::<SiteClass>(3),
-        ),
-        (
-            "least class of a site",
-            has_code::<SiteClass>(1),
-            has_code::<SiteClass>(0),
-        ),
-        (
-            "axis of a track",
-            has_code::<TrackAxis>(1),
-            has_code::<TrackAxis>(2),
-        ),
-        ("use of a net", has_code::<Usage>(8), has_code::<Usage>(9)),
-        (
-            "status of a wire",
-            has_code::<WireStatus>(2),
-            has_code::<WireStatus>(3),
-        ),
+        ("direction", codes::<Direction>(0, 5)),
+        ("kind", codes::<Kind>(1, 12)),
+        ("layer direction", codes::<LayerDirection>(0, 2)),
+        ("layer type", codes::<LayerType>(0, 5)),
+        ("orientation", codes::<Orient>(0, 7)),
+        ("owner", codes::<Owner>(1, 8)),
+        ("placement", codes::<PlaceStatus>(0, 3)),
+        ("type of a property", codes::<PropType>(1, 3)),
+        ("type of a region", codes::<RegionType>(0, 2)),
+        ("form of a row", codes::<RowForm>(0, 2)),
+        ("class of a site", codes::<SiteClass>(1, 2)),
+        ("axis of a track", codes::<TrackAxis>(0, 1)),
+        ("use of a net", codes::<Usage>(0, 8)),
+        ("status of a wire", codes::<WireStatus>(0, 2)),
     ];
-    for (what, at, beyond) in rows.iter() {
-        assert_eq!(rt; (*what, *at, *beyond), (*what, true, false));
+    for (what, found) in rows.iter() {
+        assert_eq!(rt; (*what, *found), (*what, (true, false)));
     }
     Ok(())
 }
@@ -113,6 +52,10 @@ fn has_room(alloc: Global, cap: u32, takes: u32) -> bool {
     pool.reserve(takes).is_ok()
 }
 
-fn has_code<C: Coded>(code: u8) -> bool {
-    C::from_code(code).is_some()
+// Whether the least and the last code have values, and whether the codes beside them do.
+fn codes<C: Coded>(least: u8, last: u8) -> (bool, bool) {
+    let at = C::from_code(least).is_some() && C::from_code(last).is_some();
+    let above = C::from_code(last.saturating_add(1)).is_some();
+    let below = least > 0 && C::from_code(least - 1).is_some();
+    (at, above || below)
 }

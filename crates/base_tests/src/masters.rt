@@ -1,59 +1,85 @@
+ghost use Rattle.std.specs.Prelude.{◌≡◌, IfOk};
+
 use library::{Library, MASTER_LIMIT, MTerm, Master, Shape};
 use odb_base::{Direction, LayerId, List, MasterId, Name, Rect, Text, Usage};
 use std::alloc::Global;
+use std::process::Abort;
 use std::test::Fail;
 
 #[test]
 fn masters_by_id_and_by_name(rt: HostRuntime) -> Result<(), Fail> {
-    let alloc = rt.alloc();
-    let mut library = Library::new(alloc);
+    let mut library = Library::new(rt.alloc());
+    let entered = entered_and_cut(&rt, rt.alloc(), &mut library);
+    drop(library);
+    entered
+}
+
+fn entered_and_cut(rt: &impl Abort, alloc: Global, library: &mut Library) -> Result<(), Fail> {
+    library.cut(0);
     let rows: [(&[u8], u32); 4] = [(b"INVX1", 1), (b"NAND2", 2), (b"INVX", 3), (b"invx1", 4)];
     for (name, id) in rows.iter() {
-        assert!(rt; library.find_master(*name).is_none());
-        assert!(rt; library.master(MasterId(*id)).is_none());
-        assert_eq!(rt; enter(&mut library, master(alloc, *name)?)?, MasterId(*id));
-        assert_eq!(rt; library.count(), *id);
+        is_entered(rt, alloc, library, *name, *id)?;
     }
     for (name, id) in rows.iter() {
-        assert_eq!(rt; library.find_master(*name), Some(MasterId(*id)));
-        let found = library.master(MasterId(*id)).ok_or("no master")?;
-        assert!(rt; found.name.bytes() == *name);
+        is_found(rt, library, *name, *id);
     }
-    let others: [&[u8]; 3] = [b"", b"INVX12", b"NAND"];
-    for name in others.iter() {
-        assert_eq!(rt; library.find_master(*name), None);
-    }
-    assert!(rt; library.master(MasterId(0)).is_none());
-    assert!(rt; library.master(MasterId(5)).is_none());
-    assert!(rt; library.master(MasterId(u32::MAX)).is_none());
+    has_no_other(rt, library);
+    assert_eq!(rt; library.count(), 4);
+    library.cut(4);
+    assert_eq!(rt; library.count(), 4);
+    library.cut(1);
+    assert_eq!(rt; library.count(), 1);
+    is_found(rt, library, b"INVX1", 1);
+    is_entered(rt, alloc, library, b"INVX", 2)
+}
+
+// A master that isn't there is entered, and has the next identifier.
+fn is_entered(
+    rt: &impl Abort,
+    alloc: Global,
+    library: &mut Library,
+    name: &[u8],
+    id: u32,
+) -> Result<(), Fail> {
+    assert!(rt; library.find_master(name).is_none());
+    assert!(rt; library.master(MasterId(id)).is_none());
+    assert!(rt; library.count() < MASTER_LIMIT);
+    let entered = library.add_master(master(alloc, name)?)?;
+    assert_eq!(rt; entered, MasterId(id));
+    assert_eq!(rt; library.count(), id);
     Ok(())
 }
 
-#[test]
-fn a_cut_takes_the_last_masters(rt: HostRuntime) -> Result<(), Fail> {
-    let alloc = rt.alloc();
-    let mut library = Library::new(alloc);
-    library.cut(0);
-    let names: [&[u8]; 3] = [b"a", b"b", b"c"];
+fn is_found(rt: &impl Abort, library: &Library, name: &[u8], id: u32) {
+    assert_eq!(rt; library.find_master(name), Some(MasterId(id)));
+    assert!(rt;
+        library
+            .master(MasterId(id))
+            .is_some_and(|found| found.name.bytes() == name)
+    );
+}
+
+fn has_no_other(rt: &impl Abort, library: &Library) {
+    let names: [&[u8]; 3] = [b"", b"INVX12", b"NAND"];
     for name in names.iter() {
-        enter(&mut library, master(alloc, *name)?)?;
+        assert_eq!(rt; library.find_master(*name), None);
     }
-    assert_eq!(rt; library.count(), 3);
-    library.cut(3);
-    assert_eq!(rt; library.count(), 3);
-    library.cut(1);
-    assert_eq!(rt; library.count(), 1);
-    assert_eq!(rt; library.find_master(b"a"), Some(MasterId(1)));
-    assert_eq!(rt; library.find_master(b"c"), None);
-    assert_eq!(rt; enter(&mut library, master(alloc, b"c")?)?, MasterId(2));
-    assert_eq!(rt; library.find_master(b"c"), Some(MasterId(2)));
-    Ok(())
+    let ids = [0, 5, u32::MAX];
+    for id in ids.iter() {
+        assert!(rt; library.master(MasterId(*id)).is_none());
+    }
 }
 
 #[test]
 fn terminals_by_name(rt: HostRuntime) -> Result<(), Fail> {
-    let alloc = rt.alloc();
-    let mut gate = master(alloc, b"NAND2")?;
+    let mut gate = master(rt.alloc(), b"NAND2")?;
+    let named = terminals_named(&rt, rt.alloc(), &mut gate);
+    drop(gate);
+    named
+}
+
+// Of two terminals of one name the first is found.
+fn terminals_named(rt: &impl Abort, alloc: Global, gate: &mut Master) -> Result<(), Fail> {
     let names: [&[u8]; 4] = [b"A", b"Y", b"VDD", b"Y"];
     for name in names.iter() {
         gate.terminals.push(terminal(alloc, *name)?)?;
@@ -71,17 +97,9 @@ fn terminals_by_name(rt: HostRuntime) -> Result<(), Fail> {
     Ok(())
 }
 
-fn enter(library: &mut Library, master: Master) -> Result<MasterId, Fail> {
-    if library.find_master(master.name.bytes()).is_some() {
-        return Err("the name is taken".into());
-    }
-    if library.count() == MASTER_LIMIT {
-        return Err("the library is full".into());
-    }
-    Ok(library.add_master(master)?)
-}
-
-fn master(alloc: Global, name: &[u8]) -> Result<Master, Fail> {
+fn master(alloc: Global, name: &[u8]) -> Result<Master, Fail>
+    ensures { IfOk result (λ master. master.name ≡ name.now) }
+{
     Ok(Master {
         name: Name::new(alloc, name)?,
         class: Text::new(alloc, b"CORE")?,

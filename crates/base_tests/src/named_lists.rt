@@ -1,6 +1,7 @@
 use named_list::{Named, NamedList};
 use odb_base::Name;
 use std::alloc::Global;
+use std::process::Abort;
 use std::test::Fail;
 
 #[derive(Drop)]
@@ -19,41 +20,50 @@ impl Named for Cell {
 
 #[test]
 fn things_by_identifier_and_by_name(rt: HostRuntime) -> Result<(), Fail> {
-    let alloc = rt.alloc();
-    let mut cells: NamedList<Cell> = NamedList::new(alloc);
+    let mut cells: NamedList<Cell> = NamedList::new(rt.alloc());
+    let entered = entered_and_cut(&rt, rt.alloc(), &mut cells);
+    drop(cells);
+    entered
+}
+
+fn entered_and_cut(
+    rt: &impl Abort,
+    alloc: Global,
+    cells: &mut NamedList<Cell>,
+) -> Result<(), Fail> {
     let rows: [(&[u8], u32); 3] = [(b"INVX1", 1), (b"NAND2", 2), (b"invx1", 3)];
     for (name, id) in rows.iter() {
-        assert!(rt; cells.get(*id).is_none());
-        assert_eq!(rt; enter(alloc, &mut cells, *name, 10 * *id)?, *id);
+        is_entered(rt, alloc, cells, *name, *id)?;
     }
     for (name, id) in rows.iter() {
         assert_eq!(rt; cells.find(*name), Some(*id));
-        let cell = cells.get(*id).ok_or("no cell")?;
-        assert_eq!(rt; cell.height, 10 * *id);
+        assert!(rt; cells.get(*id).is_some_and(|cell| cell.height == 10 * *id));
     }
     assert!(rt; cells.get(0).is_none());
     assert_eq!(rt; cells.find(b"NAND"), None);
-    if cells.count() == 3 {
-        cells.cut(1);
-    }
+    assert!(rt; cells.count() == 3);
+    cells.cut(1);
     assert_eq!(rt; cells.count(), 1);
-    assert_eq!(rt; cells.find(b"NAND2"), None);
-    assert_eq!(rt; enter(alloc, &mut cells, b"NAND2", 7)?, 2);
-    Ok(())
+    assert_eq!(rt; cells.find(b"invx1"), None);
+    is_entered(rt, alloc, cells, b"NAND2", 2)
 }
 
-fn enter(
+// A cell of a height of ten times its identifier isn't there, and is entered.
+fn is_entered(
+    rt: &impl Abort,
     alloc: Global,
     cells: &mut NamedList<Cell>,
     name: &[u8],
-    height: u32,
-) -> Result<u32, Fail> {
+    id: u32,
+) -> Result<(), Fail> {
+    assert!(rt; cells.find(name).is_none() && cells.get(id).is_none());
+    assert!(rt; cells.count() < 1000 && id < 1000);
+    let name = Name::new(alloc, name)?;
     let cell = Cell {
-        name: Name::new(alloc, name)?,
-        height,
+        name,
+        height: 10 * id,
     };
-    if cells.find(cell.name.bytes()).is_some() || cells.count() > 1000 {
-        return Err("the name is taken".into());
-    }
-    Ok(cells.push(cell)?)
+    let entered = cells.push(cell)?;
+    assert_eq!(rt; entered, id);
+    Ok(())
 }

@@ -2,6 +2,8 @@ use odb_base::{
     Coded, Direction, EcoState, Kind, List, Name, NameFault, NetId, Orient, Owner, Placement,
     Point, RowForm, Text, Usage, WireCode, Worded, name_fault, oriented_size,
 };
+use std::alloc::Global;
+use std::process::Abort;
 use std::test::Fail;
 
 #[test]
@@ -27,25 +29,27 @@ fn names_and_their_first_faults(rt: HostRuntime) -> Result<(), Fail> {
         (b"DO", Some(NameFault::Reserved)),
     ];
     for (bytes, fault) in rows.iter() {
-        assert_eq!(rt; name_fault(*bytes), *fault);
-        match Name::new(alloc, *bytes) {
-            Ok(name) => {
-                assert!(rt; fault.is_none());
-                assert!(rt; name.try_clone()?.bytes() == *bytes);
-            }
-            Err(found) => assert_eq!(rt; Some(found), *fault),
-        }
+        has_fault(&rt, alloc, *bytes, *fault);
     }
     Ok(())
+}
+
+// The bytes have this fault, or are a name, which can be copied.
+fn has_fault(rt: &impl Abort, alloc: Global, bytes: &[u8], fault: Option<NameFault>) {
+    assert_eq!(rt; name_fault(bytes), fault);
+    match Name::new(alloc, bytes) {
+        Ok(name) => {
+            assert!(rt; fault.is_none());
+            assert!(rt; name.try_clone().is_ok_and(|copy| copy.bytes() == bytes));
+        }
+        Err(found) => assert_eq!(rt; Some(found), fault),
+    }
 }
 
 #[test]
 fn texts_and_lists(rt: HostRuntime) -> Result<(), Fail> {
     let alloc = rt.alloc();
-    let text = Text::new(alloc, b"\"any bytes\" \x00")?;
-    assert!(rt; text.try_clone()?.bytes() == b"\"any bytes\" \x00".as_slice());
-    let code = WireCode::from_vec(vec![in alloc; 1, 0, 255]?);
-    assert!(rt; code.try_clone()?.bytes() == [1, 0, 255].as_slice());
+    copies_of_bytes(&rt, alloc)?;
     assert!(rt; EcoState::Ended.word() == b"Ended".as_slice());
     let mut list = List::new(alloc);
     list.push(NetId(3))?;
@@ -56,8 +60,16 @@ fn texts_and_lists(rt: HostRuntime) -> Result<(), Fail> {
     Ok(())
 }
 
+fn copies_of_bytes(rt: &impl Abort, alloc: Global) -> Result<(), Fail> {
+    let text = Text::new(alloc, b"\"any bytes\" \x00")?.try_clone()?;
+    assert!(rt; text.bytes() == b"\"any bytes\" \x00".as_slice());
+    let code = WireCode::from_vec(vec![in alloc; 1, 0, 255]?).try_clone()?;
+    assert!(rt; code.bytes() == [1, 0, 255].as_slice());
+    Ok(())
+}
+
 #[test]
-fn codes_and_words(rt: HostRuntime) -> Result<(), Fail> {
+fn codes_and_words(rt: HostRuntime) {
     let orientations: [(u8, &[u8], Orient); 8] = [
         (0, b"N", Orient::N),
         (1, b"S", Orient::S),
@@ -69,27 +81,22 @@ fn codes_and_words(rt: HostRuntime) -> Result<(), Fail> {
         (7, b"FE", Orient::FE),
     ];
     for (code, word, orientation) in orientations.iter() {
-        assert_eq!(rt; orientation.code(), *code);
-        assert!(rt; orientation.word() == *word);
-        assert_eq!(rt; Orient::from_code(*code), Some(*orientation));
-        assert_eq!(rt; Orient::from_word(*word), Some(*orientation));
+        is_coded(&rt, *orientation, *code, *word);
     }
-    assert_eq!(rt; Orient::from_code(8), None);
     assert_eq!(rt; Orient::from_word(b"n"), None);
-    assert_eq!(rt; Kind::from_code(0), None);
-    assert_eq!(rt; Kind::from_word(b"iterm"), Some(Kind::ITerm));
-    assert_eq!(rt;
-        Direction::from_word(b"TRISTATE").map(|d| d.code()),
-        Some(3)
-    );
-    assert_eq!(rt; Usage::from_word(b"-"), Some(Usage::None));
-    assert_eq!(rt; Usage::from_word(b"TIEOFF").map(|u| u.code()), Some(8));
-    assert_eq!(rt;
-        Owner::from_word(b"COMPONENTPIN").map(|o| o.code()),
-        Some(8)
-    );
+    is_coded(&rt, Kind::ITerm, 2, b"iterm");
+    is_coded(&rt, Direction::Tristate, 3, b"TRISTATE");
+    is_coded(&rt, Usage::None, 0, b"-");
+    is_coded(&rt, Usage::TieOff, 8, b"TIEOFF");
+    is_coded(&rt, Owner::ComponentPin, 8, b"COMPONENTPIN");
     assert_eq!(rt; RowForm::from_code(2), Some(RowForm::DoStep));
-    Ok(())
+}
+
+// A value has this code and this word, and they have it.
+fn is_coded<C: Worded + PartialEq>(rt: &impl Abort, value: C, code: u8, word: &[u8]) {
+    assert!(rt; value.code() == code && value.word() == word);
+    assert!(rt; C::from_code(code) == Some(value));
+    assert!(rt; C::from_word(word) == Some(value));
 }
 
 #[test]

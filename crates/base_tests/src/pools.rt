@@ -10,10 +10,19 @@ use std::test::Fail;
 
 #[test]
 fn ids_are_taken_again(rt: HostRuntime) -> Result<(), Fail> {
-    taken_again::<Brand>(&rt, rt.alloc(), Blank::new(1))
+    taken_again::<Brand>(&rt, rt.alloc(), Blank::new(1))?;
+    untaken::<Brand>(&rt, rt.alloc(), Blank::new(1))
 }
 
-// Three takes, two gives, two takes of the given ids, and the ways back of these two.
+fn grown(id: u32) -> Taken {
+    Taken { id, grew: true }
+}
+
+fn again(id: u32) -> Taken {
+    Taken { id, grew: false }
+}
+
+// Three takes and two gives: which ids come next.
 fn taken_again<L: Ledger>(rt: &impl Abort, alloc: Global, blank: Blank) -> Result<(), Fail>
     requires name { blank.name ≡ L.name }
     requires parts { blank.parts ≡ L.parts }
@@ -22,41 +31,61 @@ fn taken_again<L: Ledger>(rt: &impl Abort, alloc: Global, blank: Blank) -> Resul
     let mut moves = Steps::<L>::new(blank);
     let mut pool = SlotPool::new(alloc, 10);
     pool.reserve(3)?;
-    assert_eq!(rt; pool.take(b'a', &mut moves), Taken { id: 1, grew: true });
-    assert_eq!(rt; pool.take(b'b', &mut moves), Taken { id: 2, grew: true });
-    assert_eq!(rt; pool.take(b'c', &mut moves), Taken { id: 3, grew: true });
+    let taken = [
+        pool.take(b'a', &mut moves),
+        pool.take(b'b', &mut moves),
+        pool.take(b'c', &mut moves),
+    ];
+    assert_eq!(rt; taken, [grown(1), grown(2), grown(3)]);
     assert!(rt; pool.live(2));
     assert_eq!(rt; pool.give(2, &mut moves), b'b');
     assert!(rt; pool.live(1));
     assert_eq!(rt; pool.give(1, &mut moves), b'a');
-    assert_eq!(rt;
-        (
-            pool.next_id(0),
-            pool.next_id(1),
-            pool.next_id(2),
-            pool.next_id(3)
-        ),
-        (1, 2, 4, 5)
-    );
+    let next = [
+        pool.next_id(0),
+        pool.next_id(1),
+        pool.next_id(2),
+        pool.next_id(3),
+    ];
+    assert_eq!(rt; next, [1, 2, 4, 5]);
+    assert_eq!(rt; (pool.slots(), pool.live_count(), pool.cap()), (3, 1, 10));
+    Ok(())
+}
+
+// Two takes of ids that were given, and their ways back.
+fn untaken<L: Ledger>(rt: &impl Abort, alloc: Global, blank: Blank) -> Result<(), Fail>
+    requires name { blank.name ≡ L.name }
+    requires parts { blank.parts ≡ L.parts }
+    requires some { blank.parts ≡ 1 }
+{
+    let mut moves = Steps::<L>::new(blank);
+    let mut pool = SlotPool::new(alloc, 10);
+    pool.reserve(2)?;
+    pool.take(b'a', &mut moves);
+    pool.take(b'b', &mut moves);
+    assert!(rt; pool.live(2));
+    pool.give(2, &mut moves);
+    assert!(rt; pool.live(1));
+    pool.give(1, &mut moves);
     let first = pool.take(b'd', &mut moves);
-    assert_eq!(rt; first, Taken { id: 1, grew: false });
     let second = pool.take(b'e', &mut moves);
-    assert_eq!(rt; second, Taken { id: 2, grew: false });
-    assert_eq!(rt; pool.untake(second.id, second.grew, &mut moves), b'e');
-    assert_eq!(rt; pool.untake(first.id, first.grew, &mut moves), b'd');
+    assert_eq!(rt; (first, second), (again(1), again(2)));
+    let last = pool.untake(second.id, second.grew, &mut moves);
+    let before = pool.untake(first.id, first.grew, &mut moves);
+    assert_eq!(rt; (last, before), (b'e', b'd'));
     let free: Vec<u32> = pool.free().collect(alloc)?;
     assert_eq!(rt; free.as_slice(), [1, 2].as_slice());
-    assert_eq!(rt; (pool.slots(), pool.live_count(), pool.cap()), (3, 1, 10));
     Ok(())
 }
 
 #[test]
 fn room_and_records(rt: HostRuntime) -> Result<(), Fail> {
-    kept_records::<Brand>(&rt, rt.alloc(), Blank::new(1))
+    full_pool::<Brand>(&rt, rt.alloc(), Blank::new(1))?;
+    kept_record::<Brand>(&rt, rt.alloc(), Blank::new(1))
 }
 
-// Two slots at most: when a take has no room, and what is read, replaced and given.
-fn kept_records<L: Ledger>(rt: &impl Abort, alloc: Global, blank: Blank) -> Result<(), Fail>
+// Two slots at most: when a take has no room.
+fn full_pool<L: Ledger>(rt: &impl Abort, alloc: Global, blank: Blank) -> Result<(), Fail>
     requires name { blank.name ≡ L.name }
     requires parts { blank.parts ≡ L.parts }
     requires some { blank.parts ≡ 1 }
@@ -73,7 +102,19 @@ fn kept_records<L: Ledger>(rt: &impl Abort, alloc: Global, blank: Blank) -> Resu
         (first.id, second.id, pool.slots(), pool.next_id(0)),
         (1, 2, 1, 2)
     );
+    Ok(())
+}
 
+// What is read, replaced and given.
+fn kept_record<L: Ledger>(rt: &impl Abort, alloc: Global, blank: Blank) -> Result<(), Fail>
+    requires name { blank.name ≡ L.name }
+    requires parts { blank.parts ≡ L.parts }
+    requires some { blank.parts ≡ 1 }
+{
+    let mut moves = Steps::<L>::new(blank);
+    let mut pool = SlotPool::new(alloc, 2);
+    pool.reserve(1)?;
+    let first = pool.take(10u8, &mut moves);
     assert_eq!(rt; pool.replace(first.id, 11, &mut moves), 10);
     *pool.change(first.id, &mut moves) = 12;
     assert_eq!(rt; pool.give(first.id, &mut moves), 12);

@@ -1,6 +1,8 @@
 use block_records::Terminals;
 use edit_words::{Step, Tag};
 use odb_base::{Kind, Name, Placement};
+use std::alloc::Global;
+use std::process::Abort;
 use std::test::Fail;
 
 #[test]
@@ -8,23 +10,47 @@ fn tags_and_copies(rt: HostRuntime) -> Result<(), Fail> {
     let alloc = rt.alloc();
     let mut terminals = Terminals::new(alloc);
     terminals.push(4)?;
-    let step = Step::NewInst {
+    let name = Name::new(alloc, b"u1")?;
+    let made = Step::NewInst {
         id: 2,
-        name: Name::new(alloc, b"u1").ok().ok_or("no name")?,
+        name,
         master: 3,
         terminals,
     };
-    assert_eq!(rt; step.tag(), Tag::NewInst { id: 2, master: 3 });
-    assert_eq!(rt; step.try_clone()?.tag(), step.tag());
+    has_tag(&rt, made, Tag::NewInst { id: 2, master: 3 });
     let kind = Kind::Inst;
     let place = Placement::UNPLACED;
     let placed = Step::Place { kind, id: 2, place };
-    assert_eq!(rt; placed.tag(), Tag::Place { kind, id: 2 });
-    let join = Step::Join {
-        kind: Kind::ITerm,
+    has_tag(&rt, placed, Tag::Place { kind, id: 2 });
+    let kind = Kind::ITerm;
+    let joined = Step::Join {
+        kind,
         id: 5,
         net: 1,
     };
-    assert_eq!(rt; join.try_clone()?.tag(), join.tag());
+    has_tag(
+        &rt,
+        joined,
+        Tag::Join {
+            kind,
+            id: 5,
+            net: 1,
+        },
+    );
     Ok(())
+}
+
+// A step has this tag, and so has a copy of it.
+fn has_tag(rt: &impl Abort, step: Step, tag: Tag) {
+    assert_eq!(rt; step.tag(), tag);
+    match step.try_clone() {
+        Ok(copy) => is_tagged(rt, copy, tag),
+        Err(_) => panic!(rt; "no memory for a copy"),
+    }
+    drop(step);
+}
+
+fn is_tagged(rt: &impl Abort, step: Step, tag: Tag) {
+    assert_eq!(rt; step.tag(), tag);
+    drop(step);
 }

@@ -27,19 +27,24 @@ fn a_source_gives_its_bytes_in_pieces(rt: HostRuntime) -> Result<(), Fail> {
         assert_eq!(rt; source.read(&mut room), *answer);
         assert!(rt; room.as_slice() == *piece);
     }
+    drop(source);
     Ok(())
 }
 
 #[test]
 fn a_sink_takes_bytes_in_pieces(rt: HostRuntime) -> Result<(), Fail> {
     let alloc = rt.alloc();
-    let mut sink = MemorySink::new(alloc, 2, vec![in alloc; 3]?);
-    assert_eq!(rt; sink.write(b"abc"), Ok(2));
-    assert_eq!(rt; write_all(&mut sink, b"cde"), Err(WriteFault::Failed));
+    let failing = vec![in alloc; 3]?;
+    let mut sink = MemorySink::new(alloc, 2, failing);
+    let some = sink.write(b"abc");
+    let failed = write_all(&mut sink, b"cde");
+    assert_eq!(rt; (some, failed), (Ok(2), Err(WriteFault::Failed)));
     assert!(rt; sink.bytes() == b"abcd".as_slice());
-    assert_eq!(rt; write_all(&mut sink, b"efg"), Ok(()));
-    assert_eq!(rt; write_all(&mut sink, b""), Ok(()));
+    let all = write_all(&mut sink, b"efg");
+    let none = write_all(&mut sink, b"");
+    assert_eq!(rt; (all, none), (Ok(()), Ok(())));
     assert!(rt; sink.bytes() == b"abcdefg".as_slice());
+    drop(sink);
     Ok(())
 }
 
@@ -68,29 +73,33 @@ fn reads(rt: &impl Abort, shelf: &mut MemoryShelf, name: &str, wanted: &[u8])
 #[test]
 fn a_shelf_keeps_its_files(rt: HostRuntime) -> Result<(), Fail> {
     let alloc = rt.alloc();
+    let bytes = b"z".to_vec(alloc)?;
     let mut shelf = MemoryShelf::new(alloc, 3, Vec::new(alloc));
     write_file(&rt, &mut shelf, "b", b"12345");
     write_file(&rt, &mut shelf, "a", b"xy");
     reads(&rt, &mut shelf, "b", b"123.");
     reads(&rt, &mut shelf, "a", b"xy..");
     write_file(&rt, &mut shelf, "b", b"");
-    shelf.put("c", b"z".to_vec(alloc)?)?;
+    assert!(rt; shelf.put("c", bytes).is_ok());
     reads(&rt, &mut shelf, "c", b"z...");
     assert!(rt; shelf.file("b") == Some(b"".as_slice()));
     assert!(rt; shelf.file("d").is_none());
     assert_eq!(rt; shelf.open("d"), Err(OpenFault::NoFile));
+    drop(shelf);
     Ok(())
 }
 
 #[test]
 fn a_shelf_fails_at_its_calls(rt: HostRuntime) -> Result<(), Fail> {
     let alloc = rt.alloc();
-    let mut shelf = MemoryShelf::new(alloc, 3, vec![in alloc; 1, 4]?);
+    let failing = vec![in alloc; 1, 4]?;
+    let mut shelf = MemoryShelf::new(alloc, 3, failing);
     assert_eq!(rt; shelf.create("a"), Err(WriteFault::Failed));
     assert!(rt; shelf.file("a").is_none());
     assert_eq!(rt; shelf.create("a"), Ok(()));
     assert_eq!(rt; shelf.write(b"wxyz"), Ok(3));
     assert_eq!(rt; shelf.write(b"z"), Err(WriteFault::Failed));
     assert!(rt; shelf.file("a") == Some(b"wxy".as_slice()));
+    drop(shelf);
     Ok(())
 }

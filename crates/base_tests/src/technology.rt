@@ -1,3 +1,5 @@
+ghost use Rattle.std.specs.Prelude.{◌≡◌, IfOk};
+
 use bitflags::Flags;
 use odb_base::{LayerDirection, LayerId, LayerType, List, Name, SiteClass, SiteId, ViaId};
 use std::alloc::Global;
@@ -7,13 +9,13 @@ use tech::{LIST_LIMIT, Layer, Site, Symmetry, Tech, TechVia};
 
 #[test]
 fn a_technology_is_stated_and_cut(rt: HostRuntime) -> Result<(), Fail> {
-    let alloc = rt.alloc();
-    let mut tech = Tech::new(alloc);
-    state(&rt, alloc, &mut tech)?;
+    let mut tech = Tech::new(rt.alloc());
+    let stated = state(&rt, rt.alloc(), &mut tech);
     finds(&rt, &tech);
     shows(&rt, &tech);
     cut(&rt, &mut tech);
-    Ok(())
+    drop(tech);
+    stated
 }
 
 // Units, two layers, a via and a site.
@@ -21,10 +23,39 @@ fn state(rt: &impl Abort, alloc: Global, tech: &mut Tech) -> Result<(), Fail> {
     assert_eq!(rt; tech.units(), 0);
     tech.set_units(2000);
     assert_eq!(rt; tech.units(), 2000);
-    assert_eq!(rt; enter_layer(tech, layer(alloc, b"met1")?)?, LayerId(1));
-    assert_eq!(rt; enter_layer(tech, layer(alloc, b"via1")?)?, LayerId(2));
-    assert_eq!(rt; enter_via(tech, via(alloc, b"met1")?)?, ViaId(1));
-    assert_eq!(rt; enter_site(tech, site(alloc, b"met1")?)?, SiteId(1));
+    is_next_layer(rt, alloc, tech, b"met1", 1)?;
+    is_next_layer(rt, alloc, tech, b"via1", 2)?;
+    is_first_via(rt, alloc, tech, b"met1")?;
+    is_first_site(rt, alloc, tech, b"met1")
+}
+
+fn is_next_layer(
+    rt: &impl Abort,
+    alloc: Global,
+    tech: &mut Tech,
+    name: &[u8],
+    id: u32,
+) -> Result<(), Fail> {
+    let [layers, _, _] = tech.counts();
+    assert!(rt; layers < LIST_LIMIT && tech.find_layer(name).is_none());
+    let entered = tech.add_layer(layer(alloc, name)?)?;
+    assert_eq!(rt; entered, LayerId(id));
+    Ok(())
+}
+
+fn is_first_via(rt: &impl Abort, alloc: Global, tech: &mut Tech, name: &[u8]) -> Result<(), Fail> {
+    let [_, vias, _] = tech.counts();
+    assert!(rt; vias < LIST_LIMIT && tech.find_via(name).is_none());
+    let entered = tech.add_via(via(alloc, name)?)?;
+    assert_eq!(rt; entered, ViaId(1));
+    Ok(())
+}
+
+fn is_first_site(rt: &impl Abort, alloc: Global, tech: &mut Tech, name: &[u8]) -> Result<(), Fail> {
+    let [_, _, sites] = tech.counts();
+    assert!(rt; sites < LIST_LIMIT && tech.find_site(name).is_none());
+    let entered = tech.add_site(site(alloc, name)?)?;
+    assert_eq!(rt; entered, SiteId(1));
     Ok(())
 }
 
@@ -63,31 +94,9 @@ fn symmetries_by_their_words(rt: HostRuntime) {
     assert_eq!(rt; Symmetry::X.union(Symmetry::R90).bits(), 5);
 }
 
-fn enter_layer(tech: &mut Tech, layer: Layer) -> Result<LayerId, Fail> {
-    let [layers, _, _] = tech.counts();
-    if layers == LIST_LIMIT || tech.find_layer(layer.name.bytes()).is_some() {
-        return Err("no room for the layer".into());
-    }
-    Ok(tech.add_layer(layer)?)
-}
-
-fn enter_via(tech: &mut Tech, via: TechVia) -> Result<ViaId, Fail> {
-    let [_, vias, _] = tech.counts();
-    if vias == LIST_LIMIT || tech.find_via(via.name.bytes()).is_some() {
-        return Err("no room for the via".into());
-    }
-    Ok(tech.add_via(via)?)
-}
-
-fn enter_site(tech: &mut Tech, site: Site) -> Result<SiteId, Fail> {
-    let [_, _, sites] = tech.counts();
-    if sites == LIST_LIMIT || tech.find_site(site.name.bytes()).is_some() {
-        return Err("no room for the site".into());
-    }
-    Ok(tech.add_site(site)?)
-}
-
-fn layer(alloc: Global, name: &[u8]) -> Result<Layer, Fail> {
+fn layer(alloc: Global, name: &[u8]) -> Result<Layer, Fail>
+    ensures { IfOk result (λ layer. layer.name ≡ name.now) }
+{
     Ok(Layer {
         name: Name::new(alloc, name)?,
         sort: LayerType::Routing,
@@ -99,7 +108,9 @@ fn layer(alloc: Global, name: &[u8]) -> Result<Layer, Fail> {
     })
 }
 
-fn via(alloc: Global, name: &[u8]) -> Result<TechVia, Fail> {
+fn via(alloc: Global, name: &[u8]) -> Result<TechVia, Fail>
+    ensures { IfOk result (λ via. via.name ≡ name.now) }
+{
     Ok(TechVia {
         name: Name::new(alloc, name)?,
         default: true,
@@ -107,7 +118,9 @@ fn via(alloc: Global, name: &[u8]) -> Result<TechVia, Fail> {
     })
 }
 
-fn site(alloc: Global, name: &[u8]) -> Result<Site, Fail> {
+fn site(alloc: Global, name: &[u8]) -> Result<Site, Fail>
+    ensures { IfOk result (λ site. site.name ≡ name.now) }
+{
     Ok(Site {
         name: Name::new(alloc, name)?,
         class: SiteClass::Core,

@@ -1,4 +1,4 @@
-use Rattle.base_tests.proofs.indexes.a_thousand_names.Given as goal
+use Rattle.base_tests.proofs.indexes.found_as_held.Given as goal
 
 abbrev pub ghosts-hold_all : goal.ghosts-hold_all
 ghosts-hold_all g a = record { name = a.blank.name; parts = a.blank.parts }
