@@ -7,7 +7,7 @@
 
 Start the watch in the folder in which the gate runs, before the gate or after:
 
-  tools/gate_times.py --watch /tmp/gate-times.log & rt ci; wait
+  tools/gate_times.py --watch ../gate-times.log & rt ci; wait
 
 Without PID it waits for an `rt ci` whose working folder is this one; an `rt ci NAME..` works on a copy, and wants its PID.
 

@@ -64,8 +64,14 @@ fn refuses(rt: &impl Abort, alloc: Global, db: &mut Database) -> Result<(), Fail
     assert!(rt; entered(alloc, db, TechPart::Units(100_000))?.is_ok());
     assert_eq!(rt; entered(alloc, db, TechPart::Units(2000))?, changed);
     // A layer and a site that aren't there.
-    assert_eq!(rt; entered(alloc, db, TechPart::Via(via(alloc, b"v1", 1)?))?, bad);
-    assert_eq!(rt; entered(alloc, db, TechPart::Master(master(alloc, b"M", 1, 0)?))?, bad);
+    assert_eq!(rt;
+        entered(alloc, db, TechPart::Via(via(alloc, b"v1", 1)?))?,
+        bad
+    );
+    assert_eq!(rt;
+        entered(alloc, db, TechPart::Master(master(alloc, b"M", 1, 0)?))?,
+        bad
+    );
     Ok(())
 }
 
@@ -85,7 +91,10 @@ fn enters_up_to_limits(rt: &impl Abort, alloc: Global, db: &mut Database) -> Res
         (b"lower", -2_000_000_001, false),
     ];
     for (name, width, accepted) in rows.iter() {
-        assert_eq!(rt; entered(alloc, db, wide(alloc, name, *width)?)?.is_ok(), *accepted);
+        assert_eq!(rt;
+            entered(alloc, db, wide(alloc, name, *width)?)?.is_ok(),
+            *accepted
+        );
     }
     for (shapes, accepted) in [(1_000_000, true), (1_000_001, false)].iter() {
         let part = TechPart::Via(via(alloc, b"v1", *shapes)?);
