@@ -329,7 +329,7 @@ def main(words):
                 call(Place(room, words[0], can_drop))
                 passed += 1
                 print(f"passed: {name}")
-            except Failed as why:
+            except (Failed, OSError, subprocess.SubprocessError) as why:
                 failed += 1
                 print(f"FAILED: {name}: {why}")
     print(f"{passed} passed, {failed} failed")
