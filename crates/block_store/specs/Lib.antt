@@ -3,7 +3,6 @@ pub mod Block
 pub mod Changes
 pub mod Database
 pub mod Fields
-pub mod FreeIds
 pub mod Lists
 pub mod Live
 pub mod Moves

@@ -1,7 +1,9 @@
 ghost use Rattle.std.specs.Prelude.{◌≡◌};
+ghost use Rattle.block_store.specs.Moves.{new_bterm, new_group, new_inst, new_net, new_region, new_row};
 
 use crate::ids::Ids;
 use block_records::{BTermRec, GroupRec, InstRec, NetRec, RegionRec, RowRec};
+use std::alloc::Global;
 
 /// An instance in its table: its record, and its properties.
 #[derive(Debug, Drop)]
@@ -51,6 +53,16 @@ pub struct GroupEntry {
 }
 
 impl InstEntry {
+    /// The record with empty lists. It takes no memory.
+    pub fn new(alloc: Global, fields: InstRec) -> InstEntry
+        ensures { result ≡ new_inst fields }
+    {
+        InstEntry {
+            fields,
+            props: Ids::new(alloc),
+        }
+    }
+
     /// The record, without the lists.
     pub fn into_record(self) -> InstRec
         ensures { result ≡ self.fields }
@@ -60,6 +72,18 @@ impl InstEntry {
 }
 
 impl NetEntry {
+    /// The record with empty lists. It takes no memory.
+    pub fn new(alloc: Global, fields: NetRec) -> NetEntry
+        ensures { result ≡ new_net fields }
+    {
+        NetEntry {
+            fields,
+            terms: Ids::new(alloc),
+            wires: Ids::new(alloc),
+            props: Ids::new(alloc),
+        }
+    }
+
     /// The record, without the lists.
     pub fn into_record(self) -> NetRec
         ensures { result ≡ self.fields }
@@ -69,6 +93,16 @@ impl NetEntry {
 }
 
 impl BTermEntry {
+    /// The record with empty lists. It takes no memory.
+    pub fn new(alloc: Global, fields: BTermRec) -> BTermEntry
+        ensures { result ≡ new_bterm fields }
+    {
+        BTermEntry {
+            fields,
+            pins: Ids::new(alloc),
+        }
+    }
+
     /// The record, without the lists.
     pub fn into_record(self) -> BTermRec
         ensures { result ≡ self.fields }
@@ -78,6 +112,16 @@ impl BTermEntry {
 }
 
 impl RowEntry {
+    /// The record with empty lists. It takes no memory.
+    pub fn new(alloc: Global, fields: RowRec) -> RowEntry
+        ensures { result ≡ new_row fields }
+    {
+        RowEntry {
+            fields,
+            props: Ids::new(alloc),
+        }
+    }
+
     /// The record, without the lists.
     pub fn into_record(self) -> RowRec
         ensures { result ≡ self.fields }
@@ -87,6 +131,17 @@ impl RowEntry {
 }
 
 impl RegionEntry {
+    /// The record with empty lists. It takes no memory.
+    pub fn new(alloc: Global, fields: RegionRec) -> RegionEntry
+        ensures { result ≡ new_region fields }
+    {
+        RegionEntry {
+            fields,
+            groups: Ids::new(alloc),
+            props: Ids::new(alloc),
+        }
+    }
+
     /// The record, without the lists.
     pub fn into_record(self) -> RegionRec
         ensures { result ≡ self.fields }
@@ -96,6 +151,17 @@ impl RegionEntry {
 }
 
 impl GroupEntry {
+    /// The record with empty lists. It takes no memory.
+    pub fn new(alloc: Global, fields: GroupRec) -> GroupEntry
+        ensures { result ≡ new_group fields }
+    {
+        GroupEntry {
+            fields,
+            members: Ids::new(alloc),
+            props: Ids::new(alloc),
+        }
+    }
+
     /// The record, without the lists.
     pub fn into_record(self) -> GroupRec
         ensures { result ≡ self.fields }

@@ -8,7 +8,6 @@ ghost use Rattle.block_store.specs.Store.{ChangesRoom, room_of};
 
 use crate::block::Block;
 use crate::entry::{BTermEntry, GroupEntry, InstEntry, NetEntry, RegionEntry, RowEntry};
-use crate::ids::Ids;
 use block_records::Record;
 use odb_base::{Kind, Steps};
 use slot_pool::Taken;
@@ -34,57 +33,17 @@ impl Block {
     {
         let alloc = self.allocator();
         match object {
-            Record::Inst(record) => self.inst.take(
-                InstEntry {
-                    fields: record,
-                    props: Ids::new(alloc),
-                },
-                moves,
-            ),
+            Record::Inst(record) => self.inst.take(InstEntry::new(alloc, record), moves),
             Record::ITerm(record) => self.iterm.take(record, moves),
-            Record::Net(record) => self.net.take(
-                NetEntry {
-                    fields: record,
-                    terms: Ids::new(alloc),
-                    wires: Ids::new(alloc),
-                    props: Ids::new(alloc),
-                },
-                moves,
-            ),
-            Record::BTerm(record) => self.bterm.take(
-                BTermEntry {
-                    fields: record,
-                    pins: Ids::new(alloc),
-                },
-                moves,
-            ),
+            Record::Net(record) => self.net.take(NetEntry::new(alloc, record), moves),
+            Record::BTerm(record) => self.bterm.take(BTermEntry::new(alloc, record), moves),
             Record::Pin(record) => self.pin.take(record, moves),
-            Record::Row(record) => self.row.take(
-                RowEntry {
-                    fields: record,
-                    props: Ids::new(alloc),
-                },
-                moves,
-            ),
+            Record::Row(record) => self.row.take(RowEntry::new(alloc, record), moves),
             Record::Track(record) => self.track.take(record, moves),
             Record::Wire(record) => self.wire.take(record, moves),
             Record::Blockage(record) => self.blockage.take(record, moves),
-            Record::Region(record) => self.region.take(
-                RegionEntry {
-                    fields: record,
-                    groups: Ids::new(alloc),
-                    props: Ids::new(alloc),
-                },
-                moves,
-            ),
-            Record::Group(record) => self.group.take(
-                GroupEntry {
-                    fields: record,
-                    members: Ids::new(alloc),
-                    props: Ids::new(alloc),
-                },
-                moves,
-            ),
+            Record::Region(record) => self.region.take(RegionEntry::new(alloc, record), moves),
+            Record::Group(record) => self.group.take(GroupEntry::new(alloc, record), moves),
             Record::Prop(record) => self.prop.take(record, moves),
         }
     }
@@ -161,57 +120,17 @@ impl Block {
     {
         let alloc = self.allocator();
         match object {
-            Record::Inst(record) => self.inst.ungive(
-                InstEntry {
-                    fields: record,
-                    props: Ids::new(alloc),
-                },
-                moves,
-            ),
+            Record::Inst(record) => self.inst.ungive(InstEntry::new(alloc, record), moves),
             Record::ITerm(record) => self.iterm.ungive(record, moves),
-            Record::Net(record) => self.net.ungive(
-                NetEntry {
-                    fields: record,
-                    terms: Ids::new(alloc),
-                    wires: Ids::new(alloc),
-                    props: Ids::new(alloc),
-                },
-                moves,
-            ),
-            Record::BTerm(record) => self.bterm.ungive(
-                BTermEntry {
-                    fields: record,
-                    pins: Ids::new(alloc),
-                },
-                moves,
-            ),
+            Record::Net(record) => self.net.ungive(NetEntry::new(alloc, record), moves),
+            Record::BTerm(record) => self.bterm.ungive(BTermEntry::new(alloc, record), moves),
             Record::Pin(record) => self.pin.ungive(record, moves),
-            Record::Row(record) => self.row.ungive(
-                RowEntry {
-                    fields: record,
-                    props: Ids::new(alloc),
-                },
-                moves,
-            ),
+            Record::Row(record) => self.row.ungive(RowEntry::new(alloc, record), moves),
             Record::Track(record) => self.track.ungive(record, moves),
             Record::Wire(record) => self.wire.ungive(record, moves),
             Record::Blockage(record) => self.blockage.ungive(record, moves),
-            Record::Region(record) => self.region.ungive(
-                RegionEntry {
-                    fields: record,
-                    groups: Ids::new(alloc),
-                    props: Ids::new(alloc),
-                },
-                moves,
-            ),
-            Record::Group(record) => self.group.ungive(
-                GroupEntry {
-                    fields: record,
-                    members: Ids::new(alloc),
-                    props: Ids::new(alloc),
-                },
-                moves,
-            ),
+            Record::Region(record) => self.region.ungive(RegionEntry::new(alloc, record), moves),
+            Record::Group(record) => self.group.ungive(GroupEntry::new(alloc, record), moves),
             Record::Prop(record) => self.prop.ungive(record, moves),
         }
     }

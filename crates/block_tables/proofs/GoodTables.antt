@@ -1,11 +1,12 @@
 -- When a table is good, by counts of its free identifiers.
-use Rattle.std.proofs.Common.{◌≡◌, ◌+◌, ◌<◌, ◌≤◌, ◌==◌, zero, suc, eqb, Bool, true, false, List, [], ◌∷◌, ℕ, Option, Some, None, All, length, get_or, min, refl, sym, ap, ◌∙◌, inl, inr, arith}
+use Rattle.std.proofs.Common.{◌≡◌, ◌+◌, ◌<◌, ◌≤◌, ◌==◌, zero, suc, eqb, Bool, true, false, List, [], ◌∷◌, ℕ, Option, Some, None, is_none, is_some, nat_le, not, All, length, get_or, min, refl, sym, ap, ◌∙◌, inl, inr, arith}
 use Rattle.std.proofs.lemmas.Bool.{cases_Bool, cases_lt, eqb-true, eqb-false}
 use Rattle.std.proofs.lemmas.Bool.Decides.{nat_tests}
 use Rattle.std.proofs.lemmas.List.{get_or_default}
 use Rattle.slot_pool.specs.Table.{Table, IsGood, is_vacant, once_if, times}
 use Rattle.slot_pool.proofs.Counts.{times_cons_other, vacant_within}
 use Rattle.slot_pool.proofs.GoodTables.{free_ids_are_vacant}
+use Rattle.block_store.proofs.Slots.{record_at_place}
 use Rattle.block_tables.specs.Counting.{often}
 
 -- what a list holds stands at some place
@@ -53,6 +54,35 @@ module _ {A : Type 0} (slots : List (Option A)) (free counts : List ℕ) where
     within = λ k d within. (vacant_within slots (get_or free k d) (free_ids_are_vacant (record { slots = slots; free = free }) good k d within)).1;
     once = λ id near. tallied id (omega arith) ∙ two_of (times id free) (is_vacant slots id) (good id);
   }
+
+module _ {A : Type 0} (slots : List (Option A)) (counts : List ℕ) where
+  -- 0 names no slot
+  pub none_counted : get_or counts 0 0 ≡ 0 → (id : ℕ) → id ≤ 0 → get_or counts id 0 ≡ once_if (is_vacant slots id)
+  none_counted first id low =
+      let zero : id ≡ 0 = omega (arith, low) in
+      ap (λ n. get_or counts n 0) zero ∙ first ∙ sym (ap (λ n. once_if (is_vacant slots n)) zero)
+
+  -- the slot at a place, which is empty or not
+  vacant_at : (place : ℕ) (slot : Option A) → place < length slots → slot ≡ get_or slots place slot → is_vacant slots (place + 1) ≡ is_none slot
+  vacant_at place slot within is =
+      let low : nat_le 1 (place + 1) ≡ true = grind (arith, nat_tests) in
+      let near : nat_le (place + 1) (length slots) ≡ true = grind (arith, nat_tests, within) in
+      rw (low, near) (ap is_none (record_at_place (record { slots = slots; free = [] }) place ∙ get_or_default slots place None slot within ∙ sym is))
+
+  empty_is : (slot : Option A) (empty : Bool) → is_some slot ≡ not empty → is_none slot ≡ empty
+  empty_is None true e = refl
+  empty_is None false e = cc
+  empty_is (Some x) true e = cc
+  empty_is (Some x) false e = refl
+
+  -- one slot more
+  pub next_counted : (place : ℕ) (slot : Option A) → place < length slots → slot ≡ get_or slots place slot → (empty : Bool) → is_some slot ≡ not empty → get_or counts (place + 1) 0 ≡ once_if empty → ((id : ℕ) → id ≤ place → get_or counts id 0 ≡ once_if (is_vacant slots id)) → (id : ℕ) → id ≤ place + 1 → get_or counts id 0 ≡ once_if (is_vacant slots id)
+  next_counted place slot within is empty so here known id low = elim (cases_lt place id) [
+    | inl last ↦
+        let same : id ≡ place + 1 = omega (arith, last, low) in
+        ap (λ n. get_or counts n 0) same ∙ here ∙ ap once_if (sym (vacant_at place slot within is ∙ empty_is slot empty so)) ∙ sym (ap (λ n. once_if (is_vacant slots n)) same)
+    | inr before ↦ known id before
+  ]
 
 vacant_nowhere : (A : Type 0) (id : ℕ) → is_vacant {A = A} [] id ≡ false
 vacant_nowhere A id = elim (cases_lt 0 id) [

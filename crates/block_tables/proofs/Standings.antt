@@ -31,6 +31,15 @@ module _ (b : Block) where
     | inr e ↦ rw e (ap (λ o. option_map_or (λ (e : BTermEntry). e.fields.net) o 0) (past_none b.bterm (number / 2) bterms))
   ]
 
+  -- no terminal stands in the list of no net
+  pub none_yet : (number : ℕ) → standing_up_to b 0 number ≡ 0
+  none_yet number = elim (cases_Bool (nat_le (term_net b number) 0)) [
+    | inl e ↦
+        let unjoined : term_net b number ≡ 0 = grind (arith, nat_tests, e) in
+        rw e (ap (λ n. often number (net_terms b n)) unjoined)
+    | inr e ↦ rw e refl
+  ]
+
   -- none of a net's terminals stands in the lists of the nets before it
   pub none_before : (last number : ℕ) → term_net b number ≡ last + 1 → standing_up_to b last number ≡ 0
   none_before last number is =

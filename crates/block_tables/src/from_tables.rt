@@ -48,7 +48,10 @@ impl FromTables for Block {
         // Nothing in a block names a part of the technology yet.
         let _tech = tech;
         match check(alloc, &tables, library) {
-            Err(fault) => Err(fault),
+            Err(fault) => {
+                drop(tables);
+                Err(fault)
+            }
             Ok(()) => match Block::with_tables(alloc, tables, cap) {
                 Ok(block) => Ok(block),
                 Err(_) => Err(TablesFault::Memory),

@@ -46,12 +46,10 @@ fn has_room_up_to_the_limit(rt: &impl Abort, block: &mut Block) {
 }
 
 fn is_without(rt: &impl Abort, block: &Block, kind: Kind) {
-    assert_eq!(rt; block.slots(kind), 0);
-    assert_eq!(rt; block.live_count(kind), 0);
-    assert_eq!(rt; block.ids(kind).next(), None);
-    assert_eq!(rt; block.free_ids(kind).next(), None);
-    assert_eq!(rt; block.find(kind, b"a"), None);
-    assert!(rt; block.name_of(kind, 1).is_none());
+    assert_eq!(rt; (block.slots(kind), block.live_count(kind)), (0, 0));
+    let ids = (block.ids(kind).next(), block.free_ids(kind).next());
+    assert_eq!(rt; ids, (None, None));
+    assert!(rt; block.find(kind, b"a").is_none() && block.name_of(kind, 1).is_none());
 }
 
 #[test]
@@ -93,7 +91,7 @@ fn change_nets<L: Ledger>(
     rename_net(rt, alloc, block, 2, b"d", moves)?;
     finds(rt, block);
     let gone = give_net(rt, block, 2, moves);
-    has_one_gone(rt, alloc, block)?;
+    has_one_gone(rt, block);
     ungive_net(rt, block, gone, moves);
     finds(rt, block);
     untake_net(rt, block, 3, moves);
@@ -101,9 +99,9 @@ fn change_nets<L: Ledger>(
 }
 
 fn finds(rt: &impl Abort, block: &Block) {
-    assert_eq!(rt; block.find(Kind::Net, b"d"), Some(2));
-    assert_eq!(rt; block.find(Kind::Net, b"b"), None);
-    assert_eq!(rt; block.find(Kind::Inst, b"d"), None);
+    let found = (block.find(Kind::Net, b"d"), block.find(Kind::Net, b"b"));
+    assert_eq!(rt; found, (Some(2), None));
+    assert!(rt; block.find(Kind::Inst, b"d").is_none());
     assert!(rt;
         block
             .name_of(Kind::Net, 2)
@@ -111,14 +109,12 @@ fn finds(rt: &impl Abort, block: &Block) {
     );
 }
 
-fn has_one_gone(rt: &impl Abort, alloc: Global, block: &Block) -> Result<(), Fail> {
-    let live: Vec<u32> = block.ids(Kind::Net).collect(alloc)?;
-    assert_eq!(rt; live.as_slice(), [1, 3].as_slice());
-    let free: Vec<u32> = block.free_ids(Kind::Net).collect(alloc)?;
-    assert_eq!(rt; free.as_slice(), [2].as_slice());
-    assert_eq!(rt; block.live_count(Kind::Net), 2);
-    assert!(rt; block.net(NetId(2)).is_none());
-    Ok(())
+fn has_one_gone(rt: &impl Abort, block: &Block) {
+    let mut live = block.ids(Kind::Net);
+    assert_eq!(rt; (live.next(), live.next(), live.next()), (Some(1), Some(3), None));
+    let mut free = block.free_ids(Kind::Net);
+    assert_eq!(rt; (free.next(), free.next()), (Some(2), None));
+    assert!(rt; block.live_count(Kind::Net) == 2 && block.net(NetId(2)).is_none());
 }
 
 #[test]
@@ -148,11 +144,12 @@ fn join_terminals<L: Ledger>(
     take_inst(rt, alloc, block, b"u1", moves)?;
     take_net(rt, alloc, block, b"n1", 1, moves)?;
     join_three(rt, block, moves)?;
-    has_all_terms(rt, alloc, block)?;
+    has_all_terms(rt, block);
     part_and_back(rt, block, 2, Some(2), moves)?;
-    has_all_terms(rt, alloc, block)?;
+    has_all_terms(rt, block);
     part_and_back(rt, block, 1, None, moves)?;
-    has_all_terms(rt, alloc, block)
+    has_all_terms(rt, block);
+    Ok(())
 }
 
 fn join_three<L: Ledger>(
@@ -168,13 +165,13 @@ fn join_three<L: Ledger>(
     join(rt, block, 3, moves)
 }
 
-fn has_all_terms(rt: &impl Abort, alloc: Global, block: &Block) -> Result<(), Fail> {
-    let members: Vec<u32> = block.walk(ListOf::Terms(NetId(1))).collect(alloc)?;
-    assert_eq!(rt; members.as_slice(), [6, 4, 2].as_slice());
+fn has_all_terms(rt: &impl Abort, block: &Block) {
+    let mut terms = block.walk(ListOf::Terms(NetId(1)));
+    let members = (terms.next(), terms.next(), terms.next(), terms.next());
+    assert_eq!(rt; members, (Some(6), Some(4), Some(2), None));
     assert!(rt; block.inst(InstId(1)).is_some());
     assert!(rt; block.iterm(ITermId(3)).is_some_and(|r| r.net == 1));
-    assert_eq!(rt; block.walk(ListOf::InstTerms(InstId(1))).next(), None);
-    Ok(())
+    assert!(rt; block.walk(ListOf::InstTerms(InstId(1))).next().is_none());
 }
 
 // The calls below check what the block's calls need, and make them.
@@ -266,9 +263,9 @@ fn ungive_net<L: Ledger>(rt: &impl Abort, block: &mut Block, net: NetRec, moves:
 fn untake_net<L: Ledger>(rt: &impl Abort, block: &mut Block, id: u32, moves: &mut Steps<L>) {
     assert!(rt; block.live(Kind::Net, id));
     assert!(rt; has_no_lists(block, id));
-    assert_eq!(rt; block.slots(Kind::Net), id);
-    assert_eq!(rt; block.free_ids(Kind::Net).next(), None);
-    let _record = block.untake(Kind::Net, id, true, moves);
+    assert!(rt; block.slots(Kind::Net) == id);
+    assert!(rt; block.free_ids(Kind::Net).next().is_none());
+    drop(block.untake(Kind::Net, id, true, moves));
 }
 
 // A terminal of an instance enters the list of net 1 in front.

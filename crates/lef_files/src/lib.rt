@@ -5,7 +5,7 @@
 //! of the file have, and no file changes.
 //!
 //! A file is read in pieces of 16 KiB into one buffer of 80 KiB and is never held whole. What stands behind
-//! `END LIBRARY` isn't read.
+//! `END LIBRARY` isn't looked at.
 #![tactic(auto)]
 
 mod file;

@@ -3,7 +3,8 @@ use lef_build::{BuildFault, Parts, parts_of};
 use lef_tree::{LefItem, LefLayer, LefMacro, LefPins, LefRect, LefShape, LefSite, LefTree, LefVia};
 use library::{Library, Master};
 use odb_base::{LayerDirection, LayerType, List, Name, Rect, SiteClass, Text};
-use std::alloc::Global;
+use std::alloc::{AllocError, Global};
+use std::process::Abort;
 use std::test::Fail;
 use tech::{Layer, Site, Tech, TechVia};
 
@@ -11,12 +12,29 @@ use tech::{Layer, Site, Tech, TechVia};
 fn a_site_and_a_macro_in_units(rt: HostRuntime) -> Result<(), Fail> {
     let alloc = rt.alloc();
     let mut items = List::new(alloc);
+    if let Err(fault) = state_cells(alloc, &mut items) {
+        drop(items);
+        return Err(fault);
+    }
+    let built = built(alloc, items);
+    let told = expect_cells(&rt, &built);
+    drop(built);
+    told
+}
+
+fn state_cells(alloc: Global, items: &mut List<LefItem>) -> Result<(), Fail> {
     items.push(LefItem::Units(1000))?;
     items.push(site(alloc, b"s", [b"0.46", b"2.72"])?)?;
-    items.push(cell(alloc, b"m", b"s", [b"-0.0005", b"0.0004", b"1.38", b"2.72"])?)?;
-    items.push(cell(alloc, b"m", b"t", [b"0", b"0", b"-1", b"."])?)?;
-    let Parts { parts, passed } = built(alloc, items)?;
-    assert_eq!(rt; passed, 8);
+    items.push(cell(alloc, b"s", [b"-0.0005", b"0.0004", b"1.38", b"2.72"])?)?;
+    items.push(cell(alloc, b"t", [b"0", b"0", b"-1", b"."])?)?;
+    Ok(())
+}
+
+fn expect_cells(rt: &impl Abort, built: &Result<Parts, BuildFault>) -> Result<(), Fail> {
+    let Ok(Parts { parts, passed }) = built else {
+        return Err("no parts".into());
+    };
+    assert_eq!(rt; *passed, 8);
     let [
         TechPart::Units(1000),
         TechPart::Site(site),
@@ -34,13 +52,30 @@ fn a_site_and_a_macro_in_units(rt: HostRuntime) -> Result<(), Fail> {
 fn layers_and_a_via_on_one(rt: HostRuntime) -> Result<(), Fail> {
     let alloc = rt.alloc();
     let mut items = List::new(alloc);
+    if let Err(fault) = state_layers(alloc, &mut items) {
+        drop(items);
+        return Err(fault);
+    }
+    let built = built(alloc, items);
+    let told = expect_layers(&rt, &built);
+    drop(built);
+    told
+}
+
+fn state_layers(alloc: Global, items: &mut List<LefItem>) -> Result<(), Fail> {
     items.push(LefItem::Units(2000))?;
     items.push(layer(alloc, b"met1", b"0.34")?)?;
     items.push(layer(alloc, b"met2", b"0.46")?)?;
     items.push(layer(alloc, b"met1", b".")?)?;
-    items.push(via(alloc, b"v", b"met2")?)?;
-    let Parts { parts, passed } = built(alloc, items)?;
-    assert_eq!(rt; passed, 8);
+    items.push(via(alloc, b"met2")?)?;
+    Ok(())
+}
+
+fn expect_layers(rt: &impl Abort, built: &Result<Parts, BuildFault>) -> Result<(), Fail> {
+    let Ok(Parts { parts, passed }) = built else {
+        return Err("no parts".into());
+    };
+    assert_eq!(rt; *passed, 8);
     let [
         TechPart::Units(2000),
         TechPart::Layer(first),
@@ -59,47 +94,78 @@ fn layers_and_a_via_on_one(rt: HostRuntime) -> Result<(), Fail> {
 #[test]
 fn each_fault_once(rt: HostRuntime) -> Result<(), Fail> {
     let alloc = rt.alloc();
-    let fault = told(alloc, 0, site(alloc, b"s", [b"1", b"1"])?)?;
-    assert!(rt; matches!(&fault, BuildFault::NoUnits));
-    let fault = told(alloc, 1000, LefItem::Units(2000))?;
-    assert!(rt;
-        matches!(
-            &fault,
-            BuildFault::UnitsChanged {
-                had: 1000,
-                got: 2000
-            }
-        )
-    );
-    let fault = told(alloc, 1000, via(alloc, b"v", b"met1")?)?;
-    assert!(rt; matches!(&fault, BuildFault::UnknownLayer { name } if is_name(name, b"met1")));
-    let fault = told(
+    let ones: [&[u8]; 4] = [b"1", b"1", b"1", b"1"];
+    expect_fault(
+        &rt,
+        alloc,
+        0,
+        site(alloc, b"s", [b"1", b"1"])?,
+        "units",
+        b"",
+    )?;
+    expect_fault(&rt, alloc, 1000, LefItem::Units(2000), "changed", b"")?;
+    expect_fault(&rt, alloc, 1000, via(alloc, b"met1")?, "layer", b"met1")?;
+    expect_fault(&rt, alloc, 1000, cell(alloc, b"t", ones)?, "site", b"t")?;
+    expect_fault(
+        &rt,
         alloc,
         1000,
-        cell(alloc, b"m", b"t", [b"0", b"0", b"1", b"1"])?,
-    )?;
-    assert!(rt; matches!(&fault, BuildFault::UnknownSite { name } if is_name(name, b"t")));
-    let fault = told(alloc, 1000, site(alloc, b"s", [b"1", b"-1"])?)?;
-    assert!(rt; matches!(&fault, BuildFault::BadValue { name } if is_name(name, b"s")));
-    Ok(())
+        site(alloc, b"s", [b"1", b"-1"])?,
+        "value",
+        b"s",
+    )
+}
+
+// The fault of an item where these units stand, in a word, and the name that it tells.
+fn expect_fault(
+    rt: &impl Abort,
+    alloc: Global,
+    units: u32,
+    item: LefItem,
+    word: &str,
+    name: &[u8],
+) -> Result<(), Fail> {
+    let mut items = List::new(alloc);
+    let stated = state_fault(&mut items, units, item);
+    let fault = built(alloc, items).err().ok_or("no fault")?;
+    let (told, of) = told(&fault);
+    assert_eq!(rt; told, word);
+    assert!(rt; of == name);
+    Ok(stated?)
+}
+
+fn state_fault(items: &mut List<LefItem>, units: u32, item: LefItem) -> Result<(), AllocError> {
+    if units > 0 && items.push(LefItem::Units(units)).is_err() {
+        drop(item);
+        return Err(AllocError);
+    }
+    items.push(item)
+}
+
+fn told(fault: &BuildFault) -> (&str, &[u8]) {
+    match fault {
+        BuildFault::NoUnits => ("units", b""),
+        BuildFault::UnitsChanged {
+            had: 1000,
+            got: 2000,
+        } => ("changed", b""),
+        BuildFault::UnitsChanged { .. } => ("other units", b""),
+        BuildFault::UnknownLayer { name } => ("layer", name.bytes()),
+        BuildFault::UnknownSite { name } => ("site", name.bytes()),
+        BuildFault::BadValue { name } => ("value", name.bytes()),
+        BuildFault::Memory => ("memory", b""),
+    }
 }
 
 fn built(alloc: Global, items: List<LefItem>) -> Result<Parts, BuildFault> {
+    let tech = Tech::new(alloc);
+    let library = Library::new(alloc);
     let tree = LefTree { items, passed: 7 };
-    parts_of(alloc, &Tech::new(alloc), &Library::new(alloc), &tree)
-}
-
-// The fault of an item where these units stand.
-fn told(alloc: Global, units: u32, item: LefItem) -> Result<BuildFault, Fail> {
-    let mut items = List::new(alloc);
-    if units > 0 {
-        items.push(LefItem::Units(units))?;
-    }
-    items.push(item)?;
-    match built(alloc, items) {
-        Ok(_) => Err("no fault".into()),
-        Err(fault) => Ok(fault),
-    }
+    let parts = parts_of(alloc, &tech, &library, &tree);
+    drop(tree);
+    drop(library);
+    drop(tech);
+    parts
 }
 
 fn is_name(name: &Name, bytes: &[u8]) -> bool {
@@ -138,14 +204,15 @@ fn is_via(via: &TechVia) -> bool {
         && matches!(via.shapes.items(), [shape] if shape.layer.0 == 2 && shape.rect == whole)
 }
 
+// In the items below a distance that finds no memory isn't stated, and the test fails by its values.
 fn layer(alloc: Global, name: &[u8], pitch: &[u8]) -> Result<LefItem, Fail> {
     Ok(LefItem::Layer(LefLayer {
         name: Name::new(alloc, name)?,
         sort: LayerType::Routing,
         direction: LayerDirection::Vertical,
-        pitch_x: Some(Text::new(alloc, pitch)?),
+        pitch_x: Text::new(alloc, pitch).ok(),
         pitch_y: None,
-        width: Some(Text::new(alloc, b"0.14")?),
+        width: Text::new(alloc, b"0.14").ok(),
         spacing: None,
     }))
 }
@@ -155,46 +222,48 @@ fn site(alloc: Global, name: &[u8], [width, height]: [&[u8]; 2]) -> Result<LefIt
         name: Name::new(alloc, name)?,
         class: SiteClass::Core,
         symmetry: 2,
-        width: Some(Text::new(alloc, width)?),
-        height: Some(Text::new(alloc, height)?),
+        width: Text::new(alloc, width).ok(),
+        height: Text::new(alloc, height).ok(),
     }))
 }
 
-fn cell(
-    alloc: Global,
-    name: &[u8],
-    site: &[u8],
-    [x, y, width, height]: [&[u8]; 4],
-) -> Result<LefItem, Fail> {
+// A macro m that stands on a site.
+fn cell(alloc: Global, site: &[u8], [x, y, width, height]: [&[u8]; 4]) -> Result<LefItem, Fail> {
     Ok(LefItem::Macro(LefMacro {
-        name: Name::new(alloc, name)?,
-        class: Text::new(alloc, b"CORE")?,
-        origin_x: Some(Text::new(alloc, x)?),
-        origin_y: Some(Text::new(alloc, y)?),
-        width: Some(Text::new(alloc, width)?),
-        height: Some(Text::new(alloc, height)?),
+        name: Name::new(alloc, b"m")?,
+        class: Text::from_vec(Vec::new(alloc)),
+        origin_x: Text::new(alloc, x).ok(),
+        origin_y: Text::new(alloc, y).ok(),
+        width: Text::new(alloc, width).ok(),
+        height: Text::new(alloc, height).ok(),
         symmetry: 3,
-        site: Some(Name::new(alloc, site)?),
-        foreign: Text::new(alloc, b"")?,
+        site: Name::new(alloc, site).ok(),
+        foreign: Text::from_vec(Vec::new(alloc)),
         terminals: LefPins::new(alloc),
         obstructions: List::new(alloc),
     }))
 }
 
-fn via(alloc: Global, name: &[u8], layer: &[u8]) -> Result<LefItem, Fail> {
+// A via v with a rectangle on a layer.
+fn via(alloc: Global, layer: &[u8]) -> Result<LefItem, Fail> {
+    let name = Name::new(alloc, b"v")?;
     let mut shapes = List::new(alloc);
     shapes.push(LefShape {
         layer: Name::new(alloc, layer)?,
-        rect: LefRect {
-            x1: Text::new(alloc, b"1")?,
-            y1: Text::new(alloc, b"1")?,
-            x2: Text::new(alloc, b"0")?,
-            y2: Text::new(alloc, b"0")?,
-        },
+        rect: square(alloc)?,
     })?;
     Ok(LefItem::Via(LefVia {
-        name: Name::new(alloc, name)?,
+        name,
         default: true,
         shapes,
     }))
+}
+
+fn square(alloc: Global) -> Result<LefRect, AllocError> {
+    Ok(LefRect {
+        x1: Text::new(alloc, b"1")?,
+        y1: Text::new(alloc, b"1")?,
+        x2: Text::new(alloc, b"0")?,
+        y2: Text::new(alloc, b"0")?,
+    })
 }

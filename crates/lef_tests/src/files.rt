@@ -19,9 +19,18 @@ fn read_of(
     requires piece { 0 < piece }
     requires failing { IsTrue (list_all is_call_number failing.items) }
 {
+    let bytes = text.to_vec(alloc)?;
     let mut shelf = MemoryShelf::new(alloc, piece, failing);
-    shelf.put("a.lef", text.to_vec(alloc)?)?;
-    Ok(read_lef_file(alloc, &mut shelf, "a.lef"))
+    let put = shelf.put("a.lef", bytes);
+    let read = read_lef_file(alloc, &mut shelf, "a.lef");
+    drop(shelf);
+    match put {
+        Ok(()) => Ok(read),
+        Err(fault) => {
+            drop(read);
+            Err(Fail::from(fault))
+        }
+    }
 }
 
 // What is read of a text: how many items and how many parts that were passed over, or the line and kind of a fault.
@@ -57,14 +66,25 @@ const ROWS: [(&[u8], Read); 8] = [
 fn expect(rt: &impl Abort, alloc: Global, text: &[u8], piece: usize, read: Read) -> Result<(), Fail>
     requires { 0 < piece }
 {
-    match (read_of(alloc, text, piece, Vec::new(alloc))?, read) {
+    let given = read_of(alloc, text, piece, Vec::new(alloc))?;
+    let told = expect_read(rt, &given, read);
+    drop(given);
+    told
+}
+
+fn expect_read(
+    rt: &impl Abort,
+    given: &Result<LefFileRead, FileFault>,
+    read: Read,
+) -> Result<(), Fail> {
+    match (given, read) {
         (Ok(LefFileRead::Tree(tree)), Read::Tree(items, passed)) => {
             assert_eq!(rt; tree.items.items().len(), items);
             assert_eq!(rt; tree.passed, passed);
         }
         (Ok(LefFileRead::Refused { line, kind }), Read::Refused(at, fault)) => {
-            assert_eq!(rt; line, at);
-            assert_eq!(rt; kind, fault);
+            assert_eq!(rt; *line, at);
+            assert_eq!(rt; *kind, fault);
         }
         _ => return Err(Fail::from("another answer")),
     }
@@ -96,10 +116,8 @@ fn files_are_read(rt: HostRuntime) -> Result<(), Fail> {
 fn fails(alloc: Global, failing: Vec<u64>) -> Result<bool, Fail>
     requires { IsTrue (list_all is_call_number failing.items) }
 {
-    match read_of(alloc, b"END LIBRARY \"", 100, failing)? {
-        Err(FileFault::Failed) => Ok(true),
-        _ => Ok(false),
-    }
+    let fault = read_of(alloc, b"END LIBRARY \"", 100, failing)?.err();
+    Ok(fault == Some(FileFault::Failed))
 }
 
 #[test]
@@ -113,11 +131,12 @@ fn failing_calls_are_told(rt: HostRuntime) -> Result<(), Fail> {
 }
 
 #[test]
-fn a_missing_file_is_told(rt: HostRuntime) -> Result<(), Fail> {
+fn a_missing_file_is_told(rt: HostRuntime) {
     let alloc = rt.alloc();
     let mut shelf = MemoryShelf::new(alloc, 3, Vec::new(alloc));
-    match read_lef_file(alloc, &mut shelf, "a.lef") {
-        Ok(LefFileRead::NoFile) => Ok(()),
-        _ => Err(Fail::from("a file that isn't there")),
-    }
+    let read = read_lef_file(alloc, &mut shelf, "a.lef");
+    let is_missing = matches!(&read, Ok(LefFileRead::NoFile));
+    drop(read);
+    drop(shelf);
+    assert!(rt; is_missing);
 }

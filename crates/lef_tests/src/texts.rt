@@ -1,4 +1,6 @@
-ghost use Rattle.std.specs.Prelude.{◌<◌};
+ghost use Rattle.std.specs.Prelude.{◌<◌, IsTrue};
+ghost use Rattle.std.specs.List.{list_all};
+ghost use Rattle.odb_outside.specs.Calls.{is_call_number};
 
 mod rows;
 mod shown;
@@ -21,6 +23,7 @@ fn expect(rt: &impl Abort, alloc: Global, text: &[u8], piece: usize, read: Read)
     let source = MemorySource::new(text.to_vec(alloc)?, piece, Vec::new(alloc));
     let mut words = Words::new(alloc, source)?;
     let answer = read_lef(alloc, &mut words);
+    drop(words);
     let told = expect_answer(rt, alloc, &answer, read);
     drop(answer);
     told
@@ -56,17 +59,36 @@ fn texts_are_read(rt: HostRuntime) -> Result<(), Fail> {
     Ok(())
 }
 
+// The fault of a text that comes in pieces. The reads of these numbers fail.
+fn fault_of(
+    alloc: Global,
+    text: &[u8],
+    piece: usize,
+    failing: Vec<u64>,
+) -> Result<Option<LefFault>, Fail>
+    requires piece { 0 < piece }
+    requires failing { IsTrue (list_all is_call_number failing.items) }
+{
+    let source = MemorySource::new(text.to_vec(alloc)?, piece, failing);
+    let mut words = Words::new(alloc, source)?;
+    let fault = read_lef(alloc, &mut words).err();
+    drop(words);
+    Ok(fault)
+}
+
 #[test]
 fn faults_of_words_are_handed_on(rt: HostRuntime) -> Result<(), Fail> {
     let alloc = rt.alloc();
-    let source = MemorySource::new(b"LAYER m\n\"x".to_vec(alloc)?, 3, Vec::new(alloc));
-    let mut words = Words::new(alloc, source)?;
     let open = LefFault::Word(WordFault::OpenQuote { line: 2 });
-    assert!(rt; read_lef(alloc, &mut words).err() == Some(open));
-    let source = MemorySource::new(b"LAYER".to_vec(alloc)?, 2, vec![in alloc; 2]?);
-    let mut words = Words::new(alloc, source)?;
+    assert_eq!(rt;
+        fault_of(alloc, b"LAYER m\n\"x", 3, Vec::new(alloc))?,
+        Some(open)
+    );
     let failed = LefFault::Word(WordFault::ReadFault);
-    assert!(rt; read_lef(alloc, &mut words).err() == Some(failed));
+    assert_eq!(rt;
+        fault_of(alloc, b"LAYER", 2, vec![in alloc; 2]?)?,
+        Some(failed)
+    );
     Ok(())
 }
 
@@ -80,9 +102,11 @@ fn expect_left(
 ) -> Result<(), Fail> {
     let source = MemorySource::new(text.to_vec(alloc)?, 5, Vec::new(alloc));
     let mut words = Words::new(alloc, source)?;
-    let told = fault.map(|kind| LefFault::At { line: 1, kind });
-    assert!(rt; read_lef(alloc, &mut words).err() == told);
-    match (words.next()?, left) {
+    let told = read_lef(alloc, &mut words).err();
+    let next = words.next();
+    drop(words);
+    assert_eq!(rt; told, fault.map(|kind| LefFault::At { line: 1, kind }));
+    match (next?, left) {
         (Some(word), Some(bytes)) => assert!(rt; word.bytes.bytes() == bytes),
         (word, left) => assert!(rt; word.is_none() && left.is_none()),
     }
@@ -110,15 +134,14 @@ fn is_named(alloc: Global, keyword: &[u8], name: &[u8]) -> Result<bool, Fail> {
     text.extend_from_slice(name)?;
     text.extend_from_slice(b" END ")?;
     text.extend_from_slice(name)?;
-    let source = MemorySource::new(text, 1000, Vec::new(alloc));
-    let mut words = Words::new(alloc, source)?;
-    let bad = LefFault::At {
-        line: 1,
-        kind: LefKind::BadName,
-    };
-    match read_lef(alloc, &mut words).err() {
+    match fault_of(alloc, &text, 1000, Vec::new(alloc))? {
         None => Ok(true),
-        Some(fault) if fault == bad => Ok(false),
+        Some(
+            LefFault::At {
+                line: 1,
+                kind: LefKind::BadName,
+            },
+        ) => Ok(false),
         Some(_) => Err(Fail::from("another fault")),
     }
 }

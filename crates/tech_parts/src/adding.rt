@@ -67,6 +67,7 @@ fn enter(at: u64, db: &mut Database, part: TechPart) -> Result<u32, PartFault>
     ensures err { OnErr result (db.new ≡ db.old) }
 {
     if let Some(cause) = cause_of(db, &part) {
+        drop(part);
         return Err(cause.at(at));
     }
     let id = put(db, part)?;

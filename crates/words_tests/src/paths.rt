@@ -87,44 +87,46 @@ fn words_of(alloc: Global, paths: &NamedPaths, special: bool) -> Result<Vec<u8>,
     Ok(out)
 }
 
+/// Words of paths of a special wire or a plain one, and the same with each number and coordinate written whole.
+const PATHS: [(&[u8], bool, &[u8]); 9] = [
+    (
+        b"met1 ( 0 100 ) ( 300 * ) RECT ( -70 0 70 100 ) NEW met1 ( 300 100 ) v1",
+        false,
+        b"met1 ( 0 100 ) ( 300 100 ) RECT ( -70 0 70 100 ) NEW met1 ( 300 100 ) v1",
+    ),
+    (
+        b"met4 480 + SHAPE STRIPE ( 500 0 ) ( * 20000 ) NEW met1 0 + SHAPE STRIPE ( 500 0 ) v1",
+        true,
+        b"met4 480 + SHAPE STRIPE ( 500 0 ) ( 500 20000 ) NEW met1 0 + SHAPE STRIPE ( 500 0 ) v1",
+    ),
+    (
+        b"m TAPER ( 1 2 3 ) v FS ( * * 0 ) v N RECT ( 0 0 1 1 )",
+        false,
+        b"m TAPER ( 1 2 3 ) v FS ( 1 2 0 ) v N RECT ( 0 0 1 1 )",
+    ),
+    (b"m TAPERRULE r ( 1 2 )", false, b"m TAPERRULE r ( 1 2 )"),
+    (b"N ( 1 2 ) SHAPE E", false, b"N ( 1 2 ) SHAPE E"),
+    (b"m ( -0 007 )", false, b"m ( 0 7 )"),
+    (
+        b"m 7 ( -2000000000 2000000000 )",
+        true,
+        b"m 7 ( -2000000000 2000000000 )",
+    ),
+    (
+        b"m ( 1 2 ) RECT ( 5 6 7 8 ) v W ( * 9 )",
+        false,
+        b"m ( 1 2 ) RECT ( 5 6 7 8 ) v W ( 1 9 )",
+    ),
+    (
+        b"m 1 ( 1 2 ) RECT ( 3 4 5 6 )",
+        true,
+        b"m 1 ( 1 2 ) RECT ( 3 4 5 6 )",
+    ),
+];
+
 #[test]
 fn words_and_their_paths(rt: HostRuntime) -> Result<(), Fail> {
-    let rows: [(&[u8], bool, &[u8]); 9] = [
-        (
-            b"met1 ( 0 100 ) ( 300 * ) RECT ( -70 0 70 100 ) NEW met1 ( 300 100 ) v1",
-            false,
-            b"met1 ( 0 100 ) ( 300 100 ) RECT ( -70 0 70 100 ) NEW met1 ( 300 100 ) v1",
-        ),
-        (
-            b"met4 480 + SHAPE STRIPE ( 500 0 ) ( * 20000 ) NEW met1 0 + SHAPE STRIPE ( 500 0 ) v1",
-            true,
-            b"met4 480 + SHAPE STRIPE ( 500 0 ) ( 500 20000 ) NEW met1 0 + SHAPE STRIPE ( 500 0 ) v1",
-        ),
-        (
-            b"m TAPER ( 1 2 3 ) v FS ( * * 0 ) v N RECT ( 0 0 1 1 )",
-            false,
-            b"m TAPER ( 1 2 3 ) v FS ( 1 2 0 ) v N RECT ( 0 0 1 1 )",
-        ),
-        (b"m TAPERRULE r ( 1 2 )", false, b"m TAPERRULE r ( 1 2 )"),
-        (b"N ( 1 2 ) SHAPE E", false, b"N ( 1 2 ) SHAPE E"),
-        (b"m ( -0 007 )", false, b"m ( 0 7 )"),
-        (
-            b"m 7 ( -2000000000 2000000000 )",
-            true,
-            b"m 7 ( -2000000000 2000000000 )",
-        ),
-        (
-            b"m ( 1 2 ) RECT ( 5 6 7 8 ) v W ( * 9 )",
-            false,
-            b"m ( 1 2 ) RECT ( 5 6 7 8 ) v W ( 1 9 )",
-        ),
-        (
-            b"m 1 ( 1 2 ) RECT ( 3 4 5 6 )",
-            true,
-            b"m 1 ( 1 2 ) RECT ( 3 4 5 6 )",
-        ),
-    ];
-    for (words, special, whole) in rows.iter() {
+    for (words, special, whole) in PATHS.iter() {
         let paths = parse(rt.alloc(), *words, *special)
             .ok()
             .ok_or("the words are paths")?;
@@ -134,69 +136,65 @@ fn words_and_their_paths(rt: HostRuntime) -> Result<(), Fail> {
 }
 
 /// The words are no paths; a word that isn't supported is named.
-fn expect_fault(
-    rt: &impl Abort,
-    alloc: Global,
-    words: &[u8],
-    special: bool,
-    unsupported: Option<&[u8]>,
-) {
+fn expect_fault(rt: &impl Abort, alloc: Global, words: &[u8], special: bool, unsupported: &[u8]) {
     match parse(alloc, words, special) {
         Ok(_) => panic!(rt; "the words are paths"),
-        Err(PathFault::Bad) => assert!(rt; unsupported.is_none()),
-        Err(PathFault::Unsupported { word }) => assert!(rt; unsupported == Some(word.bytes())),
+        Err(PathFault::Bad) => assert!(rt; unsupported.is_empty()),
+        Err(PathFault::Unsupported { word }) => assert!(rt; word.bytes() == unsupported),
         Err(PathFault::Memory) => panic!(rt; "memory ran out"),
     }
 }
 
+/// Words that are no paths, of a special wire or a plain one, and the word that isn't supported, if one isn't.
+const BAD_WORDS: [(&[u8], bool, &[u8]); 43] = [
+    (b"", false, b""),
+    (b" ", false, b""),
+    (b"m", false, b""),
+    (b"m TAPER", false, b""),
+    (b"m TAPERRULE r", false, b""),
+    (b"m TAPERRULE TAPER ( 1 2 )", false, b""),
+    (b"m 5 ( 1 2 )", false, b""),
+    (b"m + SHAPE s ( 1 2 )", false, b""),
+    (b"m v", false, b""),
+    (b"m RECT ( 1 2 3 4 )", false, b""),
+    (b"m ( 1 2", false, b""),
+    (b"m ( 1 )", false, b""),
+    (b"m ( 1 2 3 4 )", false, b""),
+    (b"m ( 1 2 -3 )", false, b""),
+    (b"m ( 1 2 * )", false, b""),
+    (b"m ( * 2 )", false, b""),
+    (b"m ( 1 * )", false, b""),
+    (b"m ( 1 2 ) NEW m ( * 2 )", false, b""),
+    (b"m ( 1 2 ) NEW", false, b""),
+    (b"m NEW m ( 1 2 )", false, b""),
+    (b"m ( 1 2 )  v", false, b""),
+    (b"m ( 1 2 ) ", false, b""),
+    (b"m ( 1 2 ) N", false, b""),
+    (b"m ( 1 2 ) v N S", false, b""),
+    (b"m ( 1 2 ) RECT 1 2 3 4", false, b""),
+    (b"m ( 1 2 ) RECT ( 1 2 3 * )", false, b""),
+    (b"m ( 1 2 ) RECT ( 1 2 3 4", false, b""),
+    (b"m ( 1 2 ) TAPER", false, b""),
+    (b"m ( 1 +2 )", false, b""),
+    (b"m ( 1 2.0 )", false, b""),
+    (b"m ( 1 - )", false, b""),
+    (b"m ( 1 2000000001 )", false, b""),
+    (b"m ( 1 -2000000001 )", false, b""),
+    (b"m 2000000001 ( 1 2 )", true, b""),
+    (b"m ( 1 99999999999999999999999999 )", false, b""),
+    (b"m ( 1 2 )", true, b""),
+    (b"m -1 ( 1 2 )", true, b""),
+    (b"m 1 TAPER ( 1 2 )", true, b""),
+    (b"m 1 + SHAPE ( 1 2 )", true, b""),
+    (b"m 1 + STYLE 2 ( 1 2 )", true, b"STYLE"),
+    (b"m ( MASK 1 2 )", false, b"MASK"),
+    (b"m ( 1 2 ) VIRTUAL ( x", false, b"VIRTUAL"),
+    (b"m ( 1 2 ) v DO 2 BY 2", false, b"DO"),
+];
+
 #[test]
 fn words_that_are_no_paths(rt: HostRuntime) {
-    let rows: [(&[u8], bool, Option<&[u8]>); 43] = [
-        (b"", false, None),
-        (b" ", false, None),
-        (b"m", false, None),
-        (b"m TAPER", false, None),
-        (b"m TAPERRULE r", false, None),
-        (b"m TAPERRULE TAPER ( 1 2 )", false, None),
-        (b"m 5 ( 1 2 )", false, None),
-        (b"m + SHAPE s ( 1 2 )", false, None),
-        (b"m v", false, None),
-        (b"m RECT ( 1 2 3 4 )", false, None),
-        (b"m ( 1 2", false, None),
-        (b"m ( 1 )", false, None),
-        (b"m ( 1 2 3 4 )", false, None),
-        (b"m ( 1 2 -3 )", false, None),
-        (b"m ( 1 2 * )", false, None),
-        (b"m ( * 2 )", false, None),
-        (b"m ( 1 * )", false, None),
-        (b"m ( 1 2 ) NEW m ( * 2 )", false, None),
-        (b"m ( 1 2 ) NEW", false, None),
-        (b"m NEW m ( 1 2 )", false, None),
-        (b"m ( 1 2 )  v", false, None),
-        (b"m ( 1 2 ) ", false, None),
-        (b"m ( 1 2 ) N", false, None),
-        (b"m ( 1 2 ) v N S", false, None),
-        (b"m ( 1 2 ) RECT 1 2 3 4", false, None),
-        (b"m ( 1 2 ) RECT ( 1 2 3 * )", false, None),
-        (b"m ( 1 2 ) RECT ( 1 2 3 4", false, None),
-        (b"m ( 1 2 ) TAPER", false, None),
-        (b"m ( 1 +2 )", false, None),
-        (b"m ( 1 2.0 )", false, None),
-        (b"m ( 1 - )", false, None),
-        (b"m ( 1 2000000001 )", false, None),
-        (b"m ( 1 -2000000001 )", false, None),
-        (b"m 2000000001 ( 1 2 )", true, None),
-        (b"m ( 1 99999999999999999999999999 )", false, None),
-        (b"m ( 1 2 )", true, None),
-        (b"m -1 ( 1 2 )", true, None),
-        (b"m 1 TAPER ( 1 2 )", true, None),
-        (b"m 1 + SHAPE ( 1 2 )", true, None),
-        (b"m 1 + STYLE 2 ( 1 2 )", true, Some(b"STYLE")),
-        (b"m ( MASK 1 2 )", false, Some(b"MASK")),
-        (b"m ( 1 2 ) VIRTUAL ( x", false, Some(b"VIRTUAL")),
-        (b"m ( 1 2 ) v DO 2 BY 2", false, Some(b"DO")),
-    ];
-    for (words, special, unsupported) in rows.iter() {
+    for (words, special, unsupported) in BAD_WORDS.iter() {
         expect_fault(&rt, rt.alloc(), *words, *special, *unsupported);
     }
 }
@@ -244,43 +242,45 @@ fn a_code_cut_at_every_length(rt: HostRuntime) {
     }
 }
 
+/// The elements of the code.
+const ELEMENTS: [Item<'static>; 5] = [
+    Item::Layer {
+        layer: 2,
+        width: 0,
+        shape: b"",
+        taper: 0,
+        rule: b"",
+    },
+    Item::Point {
+        x: 0,
+        y: 100,
+        ext: None,
+    },
+    Item::Point {
+        x: 300,
+        y: 100,
+        ext: Some(5),
+    },
+    Item::Via {
+        block: true,
+        via: 3,
+        orient: Some(Orient::FS),
+    },
+    Item::Rect {
+        dx1: -70,
+        dy1: 0,
+        dx2: 70,
+        dy2: 100,
+    },
+];
+
 #[test]
 fn a_code_and_its_elements(rt: HostRuntime) -> Result<(), Fail> {
-    let elements: [Item<'_>; 5] = [
-        Item::Layer {
-            layer: 2,
-            width: 0,
-            shape: b"",
-            taper: 0,
-            rule: b"",
-        },
-        Item::Point {
-            x: 0,
-            y: 100,
-            ext: None,
-        },
-        Item::Point {
-            x: 300,
-            y: 100,
-            ext: Some(5),
-        },
-        Item::Via {
-            block: true,
-            via: 3,
-            orient: Some(Orient::FS),
-        },
-        Item::Rect {
-            dx1: -70,
-            dy1: 0,
-            dx2: 70,
-            dy2: 100,
-        },
-    ];
     match decode(rt.alloc(), &CODE, 2, 0, 3) {
         Ok(paths) => {
             assert!(rt; encode(rt.alloc(), &paths)?.bytes() == CODE.as_slice());
             let mut items = Items::new(&CODE);
-            for element in elements.iter() {
+            for element in ELEMENTS.iter() {
                 assert_eq!(rt; items.next(), Some(*element));
             }
             assert_eq!(rt; items.next(), None);
@@ -310,30 +310,32 @@ fn wires_of_each_sort(rt: HostRuntime) -> Result<(), Fail> {
     Ok(())
 }
 
+/// A place of the code with a byte that can't stand there, and where the fault is.
+const BAD_FIELDS: [(usize, u8, u64); 19] = [
+    (0, 2, 0),
+    (0, 5, 0),
+    (1, 0, 1),
+    (1, 3, 1),
+    (8, 255, 5),
+    (8, 120, 5),
+    (9, 4, 9),
+    (12, 255, 9),
+    (13, 3, 13),
+    (13, 2, 14),
+    (14, 1, 14),
+    (18, 3, 18),
+    (18, 1, 18),
+    (22, 128, 19),
+    (27, 2, 27),
+    (41, 255, 38),
+    (43, 0, 44),
+    (44, 4, 44),
+    (48, 9, 48),
+];
+
 #[test]
 fn fields_that_cannot_stand(rt: HostRuntime) -> Result<(), Fail> {
-    let rows: [(usize, u8, u64); 19] = [
-        (0, 2, 0),
-        (0, 5, 0),
-        (1, 0, 1),
-        (1, 3, 1),
-        (8, 255, 5),
-        (8, 120, 5),
-        (9, 4, 9),
-        (12, 255, 9),
-        (13, 3, 13),
-        (13, 2, 14),
-        (14, 1, 14),
-        (18, 3, 18),
-        (18, 1, 18),
-        (22, 128, 19),
-        (27, 2, 27),
-        (41, 255, 38),
-        (43, 0, 44),
-        (44, 4, 44),
-        (48, 9, 48),
-    ];
-    for (place, byte, at) in rows.iter() {
+    for (place, byte, at) in BAD_FIELDS.iter() {
         let mut code = CODE.to_vec(rt.alloc())?;
         assert!(rt; *place < code.len());
         code[*place] = *byte;

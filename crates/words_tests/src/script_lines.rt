@@ -1,71 +1,87 @@
 use bitflags::Flags;
 use edit_words::Edit;
 use library::Master;
-use odb_base::Text;
-use script_words::{Command, command};
-use std::alloc::Global;
+use script_words::{Command, FileName, command};
+use std::alloc::{AllocError, Global};
 use std::process::Abort;
 use std::str::from_utf8;
 use std::test::Fail;
 use tech::{Layer, Site};
 
-fn shown(text: &Text) -> Result<&str, Fail> {
-    Ok(from_utf8(text.bytes())?)
+fn shown(text: &[u8]) -> &str {
+    from_utf8(text).unwrap_or("no text")
 }
 
 // What a line asks for, in words that are no line: each value beside its name.
 fn told(alloc: Global, line: &str) -> Result<String, Fail> {
+    let mut out = String::new(alloc);
+    tell(alloc, &mut out, line)?;
+    Ok(out)
+}
+
+fn tell(alloc: Global, out: &mut String, line: &str) -> Result<(), AllocError> {
     match command(alloc, line.as_bytes()) {
-        Ok(None) => Ok(format!(in alloc; "nothing")?),
-        Ok(Some(command)) => told_command(alloc, &command),
-        Err(fault) => Ok(format!(in alloc; "{fault:?}")?),
+        Ok(None) => out.push_str("nothing"),
+        Ok(Some(command)) => {
+            let told = tell_command(out, &command);
+            drop(command);
+            told
+        }
+        Err(fault) => write!(out, "{fault:?}"),
     }
 }
 
-fn told_command(alloc: Global, command: &Command) -> Result<String, Fail> {
-    Ok(match command {
-        Command::Edit(edit) => told_edit(alloc, edit)?,
-        Command::Units(units) => format!(in alloc; "Units {units}")?,
-        Command::Layer(layer) => told_layer(alloc, layer)?,
-        Command::Site(site) => told_site(alloc, site)?,
-        Command::Master(master) => told_master(alloc, master)?,
-        Command::ReadLef { file } => format!(in alloc; "ReadLef file={}", file.as_str())?,
-        Command::Find { kind, name } => format!(in alloc; "Find {kind:?} name={}", shown(name)?)?,
-        Command::List { kind } => format!(in alloc; "List {kind:?}")?,
-        Command::Free { kind } => format!(in alloc; "Free {kind:?}")?,
-        Command::Counts => format!(in alloc; "Counts")?,
-        Command::Terms { net } => format!(in alloc; "Terms net={net}")?,
-        Command::Save { file } => format!(in alloc; "Save file={}", file.as_str())?,
-        Command::SaveShown => format!(in alloc; "SaveShown")?,
-        Command::Load { file } => format!(in alloc; "Load file={}", file.as_str())?,
-        Command::EcoBegin => format!(in alloc; "EcoBegin")?,
-        Command::EcoUndo => format!(in alloc; "EcoUndo")?,
-    })
+fn tell_command(out: &mut String, command: &Command) -> Result<(), AllocError> {
+    match command {
+        Command::Edit(edit) => tell_edit(out, edit),
+        Command::Units(units) => write!(out, "Units {units}"),
+        Command::Layer(layer) => tell_layer(out, layer),
+        Command::Site(site) => tell_site(out, site),
+        Command::Master(master) => tell_master(out, master),
+        Command::Find { kind, name } => {
+            write!(out, "Find {kind:?} name={}", shown(name.bytes()))
+        }
+        Command::List { kind } => write!(out, "List {kind:?}"),
+        Command::Free { kind } => write!(out, "Free {kind:?}"),
+        Command::Counts => out.push_str("Counts"),
+        Command::Terms { net } => write!(out, "Terms net={net}"),
+        Command::SaveShown => out.push_str("SaveShown"),
+        Command::EcoBegin => out.push_str("EcoBegin"),
+        Command::EcoUndo => out.push_str("EcoUndo"),
+        Command::ReadLef { file } => tell_file(out, "ReadLef", file),
+        Command::Save { file } => tell_file(out, "Save", file),
+        Command::Load { file } => tell_file(out, "Load", file),
+    }
 }
 
-fn told_edit(alloc: Global, edit: &Edit) -> Result<String, Fail> {
-    Ok(match edit {
+fn tell_file(out: &mut String, verb: &str, file: &FileName) -> Result<(), AllocError> {
+    write!(out, "{verb} file={}", file.as_str())
+}
+
+fn tell_edit(out: &mut String, edit: &Edit) -> Result<(), AllocError> {
+    match edit {
         Edit::NewInst { name, master } => {
-            format!(in alloc; "NewInst name={} master={}", shown(name)?, shown(master)?)?
+            let (name, master) = (shown(name.bytes()), shown(master.bytes()));
+            write!(out, "NewInst name={name} master={master}")
         }
-        Edit::NewNet { name } => format!(in alloc; "NewNet name={}", shown(name)?)?,
+        Edit::NewNet { name } => write!(out, "NewNet name={}", shown(name.bytes())),
         Edit::NewBTerm { name, net } => {
-            format!(in alloc; "NewBTerm name={} net={net:?}", shown(name)?)?
+            write!(out, "NewBTerm name={} net={net:?}", shown(name.bytes()))
         }
         Edit::Rename { kind, id, name } => {
-            format!(in alloc; "Rename {kind:?} id={id} name={}", shown(name)?)?
+            write!(out, "Rename {kind:?} id={id} name={}", shown(name.bytes()))
         }
         Edit::Swap { inst, master } => {
-            format!(in alloc; "Swap inst={inst} master={}", shown(master)?)?
+            write!(out, "Swap inst={inst} master={}", shown(master.bytes()))
         }
-        other => told_numbers(alloc, other)?,
-    })
+        other => tell_numbers(out, other),
+    }
 }
 
 // The edits without names.
-fn told_numbers(alloc: Global, edit: &Edit) -> Result<String, Fail> {
-    Ok(match edit {
-        Edit::Destroy { kind, id } => format!(in alloc; "Destroy {kind:?} id={id}")?,
+fn tell_numbers(out: &mut String, edit: &Edit) -> Result<(), AllocError> {
+    match edit {
+        Edit::Destroy { kind, id } => write!(out, "Destroy {kind:?} id={id}"),
         Edit::Place {
             kind,
             id,
@@ -73,47 +89,46 @@ fn told_numbers(alloc: Global, edit: &Edit) -> Result<String, Fail> {
             x,
             y,
             orientation,
-        } => { format!(in alloc; "Place {kind:?} id={id} {status:?} x={x} y={y} {orientation:?}")? }
-        Edit::SetUse { kind, id, usage } => {
-            format!(in alloc; "SetUse {kind:?} id={id} {usage:?}")?
-        }
-        Edit::SetDir { bterm, direction } => {
-            format!(in alloc; "SetDir bterm={bterm} {direction:?}")?
-        }
-        Edit::MakeSpecial { net } => format!(in alloc; "MakeSpecial net={net}")?,
-        Edit::Join { kind, id, net } => format!(in alloc; "Join {kind:?} id={id} net={net}")?,
-        Edit::Part { kind, id } => format!(in alloc; "Part {kind:?} id={id}")?,
-        _ => format!(in alloc; "with names")?,
-    })
-}
-
-fn told_layer(alloc: Global, layer: &Layer) -> Result<String, Fail> {
-    let name = from_utf8(layer.name.bytes())?;
-    let (sort, direction) = (layer.sort, layer.direction);
-    Ok(format!(in alloc;
-        "Layer name={name} {sort:?} {direction:?} pitch={},{} width={} spacing={}",
-        layer.pitch_x, layer.pitch_y, layer.width, layer.spacing
-    )?)
-}
-
-fn told_site(alloc: Global, site: &Site) -> Result<String, Fail> {
-    let name = from_utf8(site.name.bytes())?;
-    let (class, symmetry) = (site.class, site.symmetry.bits());
-    Ok(format!(in alloc;
-        "Site name={name} {class:?} {}x{} symmetry={symmetry}",
-        site.width, site.height
-    )?)
-}
-
-fn told_master(alloc: Global, master: &Master) -> Result<String, Fail> {
-    let name = from_utf8(master.name.bytes())?;
-    let mut out = format!(in alloc; "Master name={name} {}x{}", master.width, master.height)?;
-    for terminal in master.terminals.items() {
-        let name = from_utf8(terminal.name.bytes())?;
-        let told = format!(in alloc; ", {name} {:?}", terminal.direction)?;
-        out.push_str(&told)?;
+        } => write!(
+            out,
+            "Place {kind:?} id={id} {status:?} x={x} y={y} {orientation:?}"
+        ),
+        Edit::SetUse { kind, id, usage } => write!(out, "SetUse {kind:?} id={id} {usage:?}"),
+        Edit::SetDir { bterm, direction } => write!(out, "SetDir bterm={bterm} {direction:?}"),
+        Edit::MakeSpecial { net } => write!(out, "MakeSpecial net={net}"),
+        Edit::Join { kind, id, net } => write!(out, "Join {kind:?} id={id} net={net}"),
+        Edit::Part { kind, id } => write!(out, "Part {kind:?} id={id}"),
+        _ => out.push_str("with names"),
     }
-    Ok(out)
+}
+
+fn tell_layer(out: &mut String, layer: &Layer) -> Result<(), AllocError> {
+    let name = shown(layer.name.bytes());
+    let (sort, direction) = (layer.sort, layer.direction);
+    write!(out, "Layer name={name} {sort:?} {direction:?} ")?;
+    let (x, y) = (layer.pitch_x, layer.pitch_y);
+    let (width, spacing) = (layer.width, layer.spacing);
+    write!(out, "pitch={x},{y} width={width} spacing={spacing}")
+}
+
+fn tell_site(out: &mut String, site: &Site) -> Result<(), AllocError> {
+    let name = shown(site.name.bytes());
+    let (class, symmetry) = (site.class, site.symmetry.bits());
+    let (width, height) = (site.width, site.height);
+    write!(
+        out,
+        "Site name={name} {class:?} {width}x{height} symmetry={symmetry}"
+    )
+}
+
+fn tell_master(out: &mut String, master: &Master) -> Result<(), AllocError> {
+    let name = shown(master.name.bytes());
+    write!(out, "Master name={name} {}x{}", master.width, master.height)?;
+    for terminal in master.terminals.items() {
+        let name = shown(terminal.name.bytes());
+        write!(out, ", {name} {:?}", terminal.direction)?;
+    }
+    Ok(())
 }
 
 fn expect_told(rt: &impl Abort, alloc: Global, rows: &[(&str, &str)]) -> Result<(), Fail> {

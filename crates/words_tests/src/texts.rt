@@ -9,7 +9,7 @@ use std::alloc::Global;
 use std::process::Abort;
 use std::test::Fail;
 
-/// The words of a text with their lines, and the line on which it ends, or its fault, which is then kept.
+// The words of a text with their lines, and the line on which it ends, or its fault, which is then kept.
 fn expect_words(
     rt: &impl Abort,
     alloc: Global,
@@ -22,60 +22,72 @@ fn expect_words(
 {
     let source = MemorySource::new(text.to_vec(alloc)?, piece, Vec::new(alloc));
     let mut words = Words::new(alloc, source)?;
+    let told = expect_rest(rt, &mut words, expected, ending);
+    drop(words);
+    told
+}
+
+fn expect_rest(
+    rt: &impl Abort,
+    words: &mut Words<MemorySource>,
+    expected: &[(&[u8], u64)],
+    ending: Result<u64, WordFault>,
+) -> Result<(), Fail> {
     for (bytes, line) in expected.iter() {
-        match words.next()? {
-            Some(word) => {
-                assert!(rt; word.bytes.bytes() == *bytes);
-                assert_eq!(rt; word.line, *line);
-            }
-            None => panic!(rt; "a word is missing"),
-        }
+        let word = words.next()?.ok_or("a word is missing")?;
+        assert!(rt; word.bytes.bytes() == *bytes);
+        assert_eq!(rt; word.line, *line);
     }
-    for _ in 0..2 {
-        match words.next() {
-            Ok(Some(word)) => panic!(rt; "another word on line {}", word.line),
-            Ok(None) => assert_eq!(rt; Ok(words.line()), ending),
-            Err(fault) => assert_eq!(rt; Err(fault), ending),
-        }
-    }
+    expect_end(rt, words, ending);
+    expect_end(rt, words, ending);
     Ok(())
 }
 
+fn expect_end(rt: &impl Abort, words: &mut Words<MemorySource>, ending: Result<u64, WordFault>) {
+    match words.next() {
+        Ok(Some(word)) => panic!(rt; "another word on line {}", word.line),
+        Ok(None) => assert_eq!(rt; Ok(words.line()), ending),
+        Err(fault) => assert_eq!(rt; Err(fault), ending),
+    }
+}
+
+/// Texts, their words with their lines, and the line on which each ends or its fault.
+const TEXTS: [(&[u8], &[(&[u8], u64)], Result<u64, WordFault>); 14] = [
+    (b"", &[], Ok(1)),
+    (b" \t\r\n", &[], Ok(2)),
+    (
+        b"SIZE 1 BY 2.5 ;",
+        &[(b"SIZE", 1), (b"1", 1), (b"BY", 1), (b"2.5", 1), (b";", 1)],
+        Ok(1),
+    ),
+    (b"a\n\nb\r\n", &[(b"a", 1), (b"b", 3)], Ok(4)),
+    (b"a;b (c)", &[(b"a;b", 1), (b"(c)", 1)], Ok(1)),
+    (b"# one\na # two \" \nb#c", &[(b"a", 2), (b"b#c", 3)], Ok(3)),
+    (b"a # the end", &[(b"a", 1)], Ok(1)),
+    (b"#", &[], Ok(1)),
+    (b"\"one two\" x", &[(b"\"one two\"", 1), (b"x", 1)], Ok(1)),
+    (
+        b"p \"a\n#b\n\" q\nr",
+        &[(b"p", 1), (b"\"a\n#b\n\"", 1), (b"q", 3), (b"r", 4)],
+        Ok(4),
+    ),
+    (
+        b"\"\"\"a\"b\"c",
+        &[(b"\"\"", 1), (b"\"a\"", 1), (b"b\"c", 1)],
+        Ok(1),
+    ),
+    (b"\"a\"#b\nc", &[(b"\"a\"", 1), (b"c", 2)], Ok(2)),
+    (
+        b"a\n \"b\nc",
+        &[(b"a", 1)],
+        Err(WordFault::OpenQuote { line: 2 }),
+    ),
+    (b"\"", &[], Err(WordFault::OpenQuote { line: 1 })),
+];
+
 #[test]
 fn texts_and_their_words(rt: HostRuntime) -> Result<(), Fail> {
-    let rows: [(&[u8], &[(&[u8], u64)], Result<u64, WordFault>); 14] = [
-        (b"", &[], Ok(1)),
-        (b" \t\r\n", &[], Ok(2)),
-        (
-            b"SIZE 1 BY 2.5 ;",
-            &[(b"SIZE", 1), (b"1", 1), (b"BY", 1), (b"2.5", 1), (b";", 1)],
-            Ok(1),
-        ),
-        (b"a\n\nb\r\n", &[(b"a", 1), (b"b", 3)], Ok(4)),
-        (b"a;b (c)", &[(b"a;b", 1), (b"(c)", 1)], Ok(1)),
-        (b"# one\na # two \" \nb#c", &[(b"a", 2), (b"b#c", 3)], Ok(3)),
-        (b"a # the end", &[(b"a", 1)], Ok(1)),
-        (b"#", &[], Ok(1)),
-        (b"\"one two\" x", &[(b"\"one two\"", 1), (b"x", 1)], Ok(1)),
-        (
-            b"p \"a\n#b\n\" q\nr",
-            &[(b"p", 1), (b"\"a\n#b\n\"", 1), (b"q", 3), (b"r", 4)],
-            Ok(4),
-        ),
-        (
-            b"\"\"\"a\"b\"c",
-            &[(b"\"\"", 1), (b"\"a\"", 1), (b"b\"c", 1)],
-            Ok(1),
-        ),
-        (b"\"a\"#b\nc", &[(b"\"a\"", 1), (b"c", 2)], Ok(2)),
-        (
-            b"a\n \"b\nc",
-            &[(b"a", 1)],
-            Err(WordFault::OpenQuote { line: 2 }),
-        ),
-        (b"\"", &[], Err(WordFault::OpenQuote { line: 1 })),
-    ];
-    for (text, words, ending) in rows.iter() {
+    for (text, words, ending) in TEXTS.iter() {
         for piece in [1, 7, 100_000] {
             expect_words(&rt, rt.alloc(), *text, piece, *words, *ending)?;
         }
@@ -94,27 +106,34 @@ fn long_text(alloc: Global, first: &[u8], length: usize, last: &[u8]) -> Result<
     Ok(text)
 }
 
+// In a text of a long word on line 2 and one more word both are read, or the first is too long.
+fn expect_long(rt: &impl Abort, alloc: Global, text: &[u8], fits: bool) -> Result<(), Fail> {
+    let end = text.len().saturating_sub(2);
+    assert!(rt; end > 1);
+    let words: [(&[u8], u64); 2] = [(&text[1..end], 2), (b"b", 2)];
+    let long = Err(WordFault::LongWord { line: 2 });
+    for piece in [1, 7, 100_000] {
+        if fits {
+            expect_words(rt, alloc, text, piece, &words, Ok(2))?;
+        } else {
+            expect_words(rt, alloc, text, piece, &[], long)?;
+        }
+    }
+    Ok(())
+}
+
 #[test]
 fn the_longest_words(rt: HostRuntime) -> Result<(), Fail> {
     let alloc = rt.alloc();
-    let long = Err(WordFault::LongWord { line: 2 });
-    let rows: [(&[u8], usize, &[u8], Result<u64, WordFault>); 4] = [
-        (b"", 65_535, b"", Ok(2)),
-        (b"", 65_536, b"", long),
-        (b"\"", 65_533, b"\"", Ok(2)),
-        (b"\"", 65_534, b"\"", long),
+    let rows: [(&[u8], usize, &[u8], bool); 4] = [
+        (b"", 65_535, b"", true),
+        (b"", 65_536, b"", false),
+        (b"\"", 65_533, b"\"", true),
+        (b"\"", 65_534, b"\"", false),
     ];
-    for (first, length, last, ending) in rows.iter() {
+    for (first, length, last, fits) in rows.iter() {
         let text = long_text(alloc, *first, *length, *last)?;
-        let end = text.len().saturating_sub(2);
-        assert!(rt; end > 1);
-        let words: [(&[u8], u64); 2] = [(&text[1..end], 2), (b"b", 2)];
-        for piece in [1, 7, 100_000] {
-            match ending {
-                Ok(_) => expect_words(&rt, alloc, &text, piece, &words, *ending)?,
-                Err(_) => expect_words(&rt, alloc, &text, piece, &[], *ending)?,
-            }
-        }
+        expect_long(&rt, alloc, &text, *fits)?;
     }
     Ok(())
 }
@@ -124,11 +143,10 @@ fn a_read_that_fails(rt: HostRuntime) -> Result<(), Fail> {
     let alloc = rt.alloc();
     let source = MemorySource::new(b"ab cd ef".to_vec(alloc)?, 3, vec![in alloc; 2]?);
     let mut words = Words::new(alloc, source)?;
-    assert!(rt; words.next()?.is_some());
-    for _ in 0..3 {
-        assert!(rt; matches!(words.next(), Err(WordFault::ReadFault)));
-    }
-    Ok(())
+    let ab: [(&[u8], u64); 1] = [(b"ab", 1)];
+    let told = expect_rest(&rt, &mut words, &ab, Err(WordFault::ReadFault));
+    drop(words);
+    told
 }
 
 #[test]
@@ -137,70 +155,75 @@ fn a_source_given_back(rt: HostRuntime) -> Result<(), Fail> {
     let source = MemorySource::new(b"ab\ncd ef".to_vec(alloc)?, 4, Vec::new(alloc));
     let mut words = Words::new(alloc, source)?;
     assert_eq!(rt; words.line(), 1);
-    assert!(rt; words.next()?.is_some());
+    let found = words.next().map(|word| word.is_some());
     let mut source = words.into_source();
     let mut room = [b'.'; 6];
-    assert_eq!(rt; source.read(&mut room), Ok(4));
+    let count = source.read(&mut room);
+    drop(source);
+    assert_eq!(rt; found, Ok(true));
+    assert_eq!(rt; count, Ok(4));
     assert!(rt; room.as_slice() == b"d ef..".as_slice());
     Ok(())
 }
 
+/// Decimals, so many units a micron, and the number of units that they are.
+const DECIMALS: [(&[u8], u32, Result<i64, NumberFault>); 35] = [
+    (b"0.0005", 1000, Ok(1)),
+    (b"-0.0005", 1000, Ok(-1)),
+    (b"0.0004", 1000, Ok(0)),
+    (b"-0.0004", 1000, Ok(0)),
+    (b"0.0014999", 1000, Ok(1)),
+    (b"0.0015", 1000, Ok(2)),
+    (b".5", 1000, Ok(500)),
+    (b"5.", 1000, Ok(5000)),
+    (b"+2", 1000, Ok(2000)),
+    (b"-12.34", 2000, Ok(-24_680)),
+    (
+        b"0.0000000000000000000000000000005",
+        1000,
+        Err(NumberFault::NotNumber),
+    ),
+    (b"0.00000000000000000000000000005", 4_294_967_295, Ok(0)),
+    (
+        b".499999999999999999999999999999",
+        4_000_000_000,
+        Ok(2_000_000_000),
+    ),
+    (b".5", 4_000_000_001, Err(NumberFault::OutOfRange)),
+    (b"7", 0, Ok(0)),
+    (b"2000000", 1000, Ok(2_000_000_000)),
+    (b"-2000000", 1000, Ok(-2_000_000_000)),
+    (b"2000000000", 1, Ok(2_000_000_000)),
+    (b"2000000001", 1, Err(NumberFault::OutOfRange)),
+    (b"-2000000000", 1, Ok(-2_000_000_000)),
+    (b"-2000000001", 1, Err(NumberFault::OutOfRange)),
+    (b"2000000.0004", 1000, Ok(2_000_000_000)),
+    (b"2000000.001", 1000, Err(NumberFault::OutOfRange)),
+    (b"-2000000.0005", 1000, Err(NumberFault::OutOfRange)),
+    (b"000000000000000000000000000001", 1000, Ok(1000)),
+    (
+        b"999999999999999999999999999999",
+        4_294_967_295,
+        Err(NumberFault::OutOfRange),
+    ),
+    (
+        b"0000000000000000000000000000001",
+        1000,
+        Err(NumberFault::NotNumber),
+    ),
+    (b"1e3", 1000, Err(NumberFault::NotNumber)),
+    (b".", 1000, Err(NumberFault::NotNumber)),
+    (b"-", 1000, Err(NumberFault::NotNumber)),
+    (b"-.", 1000, Err(NumberFault::NotNumber)),
+    (b"", 1000, Err(NumberFault::NotNumber)),
+    (b"1.2.3", 1000, Err(NumberFault::NotNumber)),
+    (b"--1", 1000, Err(NumberFault::NotNumber)),
+    (b"1-", 1000, Err(NumberFault::NotNumber)),
+];
+
 #[test]
 fn decimals_in_units(rt: HostRuntime) {
-    let rows: [(&[u8], u32, Result<i64, NumberFault>); 35] = [
-        (b"0.0005", 1000, Ok(1)),
-        (b"-0.0005", 1000, Ok(-1)),
-        (b"0.0004", 1000, Ok(0)),
-        (b"-0.0004", 1000, Ok(0)),
-        (b"0.0014999", 1000, Ok(1)),
-        (b"0.0015", 1000, Ok(2)),
-        (b".5", 1000, Ok(500)),
-        (b"5.", 1000, Ok(5000)),
-        (b"+2", 1000, Ok(2000)),
-        (b"-12.34", 2000, Ok(-24_680)),
-        (
-            b"0.0000000000000000000000000000005",
-            1000,
-            Err(NumberFault::NotNumber),
-        ),
-        (b"0.00000000000000000000000000005", 4_294_967_295, Ok(0)),
-        (
-            b".499999999999999999999999999999",
-            4_000_000_000,
-            Ok(2_000_000_000),
-        ),
-        (b".5", 4_000_000_001, Err(NumberFault::OutOfRange)),
-        (b"7", 0, Ok(0)),
-        (b"2000000", 1000, Ok(2_000_000_000)),
-        (b"-2000000", 1000, Ok(-2_000_000_000)),
-        (b"2000000000", 1, Ok(2_000_000_000)),
-        (b"2000000001", 1, Err(NumberFault::OutOfRange)),
-        (b"-2000000000", 1, Ok(-2_000_000_000)),
-        (b"-2000000001", 1, Err(NumberFault::OutOfRange)),
-        (b"2000000.0004", 1000, Ok(2_000_000_000)),
-        (b"2000000.001", 1000, Err(NumberFault::OutOfRange)),
-        (b"-2000000.0005", 1000, Err(NumberFault::OutOfRange)),
-        (b"000000000000000000000000000001", 1000, Ok(1000)),
-        (
-            b"999999999999999999999999999999",
-            4_294_967_295,
-            Err(NumberFault::OutOfRange),
-        ),
-        (
-            b"0000000000000000000000000000001",
-            1000,
-            Err(NumberFault::NotNumber),
-        ),
-        (b"1e3", 1000, Err(NumberFault::NotNumber)),
-        (b".", 1000, Err(NumberFault::NotNumber)),
-        (b"-", 1000, Err(NumberFault::NotNumber)),
-        (b"-.", 1000, Err(NumberFault::NotNumber)),
-        (b"", 1000, Err(NumberFault::NotNumber)),
-        (b"1.2.3", 1000, Err(NumberFault::NotNumber)),
-        (b"--1", 1000, Err(NumberFault::NotNumber)),
-        (b"1-", 1000, Err(NumberFault::NotNumber)),
-    ];
-    for (word, per_micron, units) in rows.iter() {
+    for (word, per_micron, units) in DECIMALS.iter() {
         assert_eq!(rt; to_units(*word, *per_micron), *units);
     }
     lines_are_counted();
