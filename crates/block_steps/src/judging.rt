@@ -5,7 +5,10 @@ ghost use Rattle.library.specs.Terminals.{term_index};
 ghost use Rattle.block_store.specs.Block.{live_in};
 ghost use Rattle.block_store.specs.Fields.{HasPlace, HasUsage, net_in, special_in};
 ghost use Rattle.block_store.specs.Names.{HasNames};
-ghost use Rattle.block_store.specs.Sound.{IsBTermDirection, IsPlacement, IsSound, iterm_net, term_count};
+ghost use Rattle.block_store.specs.BlockTerminals.{IsBTermDirection};
+ghost use Rattle.block_store.specs.Instances.{term_count};
+ghost use Rattle.block_store.specs.Placements.{IsPlacement};
+ghost use Rattle.block_store.specs.Sound.{IsSound, iterm_net};
 ghost use Rattle.steps_net.specs.Can.{AreNext, AreUnjoined, Can, CanDel, CanJoin, CanName, CanNewInst, CanPart, CanPlace, CanRename, CanSetUse, CanSwap};
 
 use crate::masters::master_of;

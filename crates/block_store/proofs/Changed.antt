@@ -1,77 +1,128 @@
 -- A sound block with one table changed, and what that table owes.
-use Rattle.std.proofs.Common.{◌≡◌, List, ℕ, refl}
-use Rattle.std.specs.Option.{option_map_or}
-use Rattle.slot_pool.specs.Table.{Table, record_at}
+use Rattle.std.proofs.Common.{◌≡◌, ◌≢◌, ◌+◌, ◌-◌, ◌≤◌, List, ℕ, Option, None, Some, IsTrue, length, refl, sym, ap, subst, ◌∙◌}
+use Rattle.std.specs.Option.{option_map, option_map_or, unwrap_or}
+use Rattle.slot_pool.specs.Table.{IsGood, Table, given, is_live, record_at, taken}
+use Rattle.odb_base.specs.declared.codes.kind.Kind.{Kind}
+use Rattle.block_records.specs.declared.header.Header.{Header}
 use Rattle.tech.specs.Technology.{Technology}
 use Rattle.library.specs.declared.master.Master.{Master}
-use Rattle.block_store.specs.declared.entry.BTermEntry.{BTermEntry}
-use Rattle.block_store.specs.declared.entry.InstEntry.{InstEntry}
-use Rattle.block_store.specs.declared.entry.NetEntry.{NetEntry}
 use Rattle.block_store.specs.Block.{Block}
-use Rattle.block_store.specs.Lists.{bterm_number, iterm_number, list_in}
-use Rattle.block_store.specs.Sound.{AreEach, AreNamed, IsBTerm, IsInst, IsNet, IsSound, IsTable, bterm_net, inst_terms, iterm_net, iterm_place, net_terms}
-use Rattle.block_store.proofs.Held.{held_stands, placed_stands}
+use Rattle.block_store.specs.KindLaws.{Parts}
+use Rattle.block_store.specs.Kinds.{Entry, on_entry, table_of, with_table}
+use Rattle.block_store.specs.Lens.{Lens}
+use Rattle.block_store.specs.Lists.{on_record}
+use Rattle.block_store.specs.Names.{name_by}
+use Rattle.block_store.specs.Sound.{AreJoined, IsKind, IsSound}
+use Rattle.block_store.specs.Tables.{HasDistinctNames, IsTable}
+use Rattle.block_store.specs.View.{laws, view}
+use Rattle.block_store.proofs.OneTable.{header_stays, shown, stays, view_same}
+use Rattle.block_store.proofs.Shown.{each_given, each_on, each_taken, live_record, named_given, named_on, named_stands, named_taken, table_given, table_on, table_taken, view_given, view_on, view_taken}
 
-module _ (tech : Technology) (library : List Master) (cap : ℕ) (d : Block) where
-  -- the table of instances changes, and shows the same terminals
-  pub inst_changed : (t : Table InstEntry) → IsTable cap t → AreEach (IsInst library) t → AreNamed (λ e. e.fields.name) t → ((object : ℕ) → list_in (λ e. e.fields.terminals) (record_at t object) ≡ inst_terms d object) → IsSound tech library cap d → IsSound tech library cap (record d { inst = t })
-  inst_changed t is each named terms sound = record {
-    masters = sound.masters;
-    header = sound.header;
-    inst = is;
-    iterm = sound.iterm;
-    net = sound.net;
-    bterm = sound.bterm;
-    others = record { pin = sound.others.pin; row = sound.others.row; track = sound.others.track; wire = sound.others.wire; blockage = sound.others.blockage; region = sound.others.region; group = sound.others.group; prop = sound.others.prop };
-    insts = each;
-    nets = sound.nets;
-    bterms = sound.bterms;
-    inst_names = named;
-    net_names = sound.net_names;
-    bterm_names = sound.bterm_names;
-    iterms_held = sound.iterms_held;
-    bterms_held = sound.bterms_held;
-    placed = placed_stands (inst_terms d) (inst_terms (record d { inst = t })) (iterm_place d) (iterm_place d) terms (λ part. refl) sound.placed;
+module _ {A : Type 0} where
+  -- the change leaves the name, where the table has names
+  abbrev pub KeepsName : Option (Lens A (List ℕ)) → (A → A) → Type 0
+  KeepsName None change = Unit {0}
+  KeepsName (Some name) change = (x : A) → name.get (change x) ≡ name.get x
+
+  -- the name is one that no object of the table has
+  abbrev pub HasNewName : Option (Lens A (List ℕ)) → A → Table A → Type 0
+  HasNewName None x t = Unit {0}
+  HasNewName (Some name) x t = (id : ℕ) → name_by name.get id t ≢ Some (name.get x)
+
+  names_on : (name : Option (Lens A (List ℕ))) (change : A → A) (id : ℕ) (t : Table A) → KeepsName name change → HasDistinctNames name t → HasDistinctNames name (on_record change id t)
+  names_on None change id t keeps named = tt
+  names_on (Some name) change id t keeps named = named_stands name.get t (on_record change id t) (view_on (option_map name.get) change id t (λ x found. ap Some (keeps x))) named
+
+  names_taken : (name : Option (Lens A (List ℕ))) (x : A) (t : Table A) → IsGood t → HasNewName name x t → HasDistinctNames name t → HasDistinctNames name (taken x t)
+  names_taken None x t good new named = tt
+  names_taken (Some name) x t good new named = named_taken name.get x t good new named
+
+  names_given : (name : Option (Lens A (List ℕ))) (id : ℕ) (t : Table A) → IsTrue (is_live t id) → HasDistinctNames name t → HasDistinctNames name (given id t)
+  names_given None id t live named = tt
+  names_given (Some name) id t live named = named_given name.get id t live named
+
+module _ (parts : Parts) (cap : ℕ) where
+  -- all kinds are sound by themselves
+  abbrev pub AreKinds : Block → Type 0
+  AreKinds b = (k : Kind) → IsKind parts cap k (table_of k b)
+
+  -- the table of a kind with one entry changed, one object more, and one less
+  kind_on : (k : Kind) (change : Entry k → Entry k) (id : ℕ) (t : Table (Entry k)) → ((x : Entry k) → record_at t id ≡ Some x → (laws k).Is parts x → (laws k).Is parts (change x)) → KeepsName (laws k).name change → IsKind parts cap k t → IsKind parts cap k (on_record change id t)
+  kind_on k change id t lawful keeps is = record {
+    table = table_on cap change id t is.table;
+    each = each_on ((laws k).Is parts) change id t lawful is.each;
+    named = names_on (laws k).name change id t keeps is.named;
   }
 
-  -- the table of nets changes, and shows the same terminals
-  pub net_changed : (t : Table NetEntry) → IsTable cap t → AreEach IsNet t → AreNamed (λ e. e.fields.name) t → ((object : ℕ) → list_in (λ e. e.terms) (record_at t object) ≡ net_terms d object) → IsSound tech library cap d → IsSound tech library cap (record d { net = t })
-  net_changed t is each named terms sound = record {
-    masters = sound.masters;
-    header = sound.header;
-    inst = sound.inst;
-    iterm = sound.iterm;
-    net = is;
-    bterm = sound.bterm;
-    others = record { pin = sound.others.pin; row = sound.others.row; track = sound.others.track; wire = sound.others.wire; blockage = sound.others.blockage; region = sound.others.region; group = sound.others.group; prop = sound.others.prop };
-    insts = sound.insts;
-    nets = each;
-    bterms = sound.bterms;
-    inst_names = sound.inst_names;
-    net_names = named;
-    bterm_names = sound.bterm_names;
-    iterms_held = held_stands (net_terms d) (net_terms (record d { net = t })) iterm_number (iterm_net d) (iterm_net d) terms (λ member. refl) sound.iterms_held;
-    bterms_held = held_stands (net_terms d) (net_terms (record d { net = t })) bterm_number (bterm_net d) (bterm_net d) terms (λ member. refl) sound.bterms_held;
-    placed = sound.placed;
+  kind_taken : (k : Kind) (x : Entry k) (t : Table (Entry k)) → 1 ≤ length t.free + (cap - length t.slots) → (laws k).Is parts x → HasNewName (laws k).name x t → IsKind parts cap k t → IsKind parts cap k (taken x t)
+  kind_taken k x t room lawful new is = record {
+    table = table_taken cap x t room is.table;
+    each = each_taken ((laws k).Is parts) x t is.table.good lawful is.each;
+    named = names_taken (laws k).name x t is.table.good new is.named;
   }
 
-  -- the table of block terminals changes, and shows the same nets
-  pub bterm_changed : (t : Table BTermEntry) → IsTable cap t → AreEach IsBTerm t → AreNamed (λ e. e.fields.name) t → ((member : ℕ) → option_map_or (λ e. e.fields.net) (record_at t member) 0 ≡ bterm_net d member) → IsSound tech library cap d → IsSound tech library cap (record d { bterm = t })
-  bterm_changed t is each named nets sound = record {
-    masters = sound.masters;
-    header = sound.header;
-    inst = sound.inst;
-    iterm = sound.iterm;
-    net = sound.net;
-    bterm = is;
-    others = record { pin = sound.others.pin; row = sound.others.row; track = sound.others.track; wire = sound.others.wire; blockage = sound.others.blockage; region = sound.others.region; group = sound.others.group; prop = sound.others.prop };
-    insts = sound.insts;
-    nets = sound.nets;
-    bterms = each;
-    inst_names = sound.inst_names;
-    net_names = sound.net_names;
-    bterm_names = named;
-    iterms_held = sound.iterms_held;
-    bterms_held = held_stands (net_terms d) (net_terms d) bterm_number (bterm_net d) (bterm_net (record d { bterm = t })) (λ object. refl) nets sound.bterms_held;
-    placed = sound.placed;
+  kind_given : (k : Kind) (id : ℕ) (t : Table (Entry k)) → IsTrue (is_live t id) → IsKind parts cap k t → IsKind parts cap k (given id t)
+  kind_given k id t live is = record {
+    table = table_given cap id t live is.table;
+    each = each_given ((laws k).Is parts) id t live is.each;
+    named = names_given (laws k).name id t live is.named;
   }
+
+  -- a kind's entry changed in a block
+  pub kinds_on : (k : Kind) (change : Entry k → Entry k) (id : ℕ) (b : Block) → ((x : Entry k) → record_at (table_of k b) id ≡ Some x → (laws k).Is parts x → (laws k).Is parts (change x)) → KeepsName (laws k).name change → AreKinds b → AreKinds (on_entry k change id b)
+  kinds_on k change id b lawful keeps are = stays (IsKind parts cap) k (on_record change id (table_of k b)) b (kind_on k change id (table_of k b) lawful keeps (are k)) are
+
+-- the parts of a technology, a library and a header
+abbrev pub parts_by : Technology → List Master → Header → Parts
+parts_by tech library header = record { tech = tech; library = library; header = header }
+
+module _ (tech : Technology) (library : List Master) (cap : ℕ) where
+  -- a block beside a sound one: with the same header, its kinds sound and its objects joined
+  pub sound_beside : (d c : Block) → IsSound tech library cap d → c.header ≡ d.header → AreKinds (parts_by tech library d.header) cap c → AreJoined (view c) → IsSound tech library cap c
+  sound_beside d c sound header kinds joined = record {
+    masters = sound.masters;
+    header = header ∙ sound.header;
+    kinds = subst (λ h. AreKinds (parts_by tech library h) cap c) (sym header) kinds;
+    joined = joined;
+  }
+
+  module _ (d : Block) where
+    -- a table that shows what it showed
+    pub sound_table : (k : Kind) (t : Table (Entry k)) → IsKind (parts_by tech library d.header) cap k t → ((id : ℕ) → shown k t id ≡ view d k id) → IsSound tech library cap d → IsSound tech library cap (with_table k t d)
+    sound_table k t is same sound =
+        sound_beside d (with_table k t d) sound (header_stays k t d) (stays (IsKind (parts_by tech library d.header) cap) k t d is sound.kinds)
+        (subst AreJoined (sym (view_same k t d same)) sound.joined)
+
+    -- an entry changes, and keeps its name and what it shows
+    pub sound_entry : (k : Kind) (change : Entry k → Entry k) (id : ℕ) → ((x : Entry k) → (laws k).Is (parts_by tech library d.header) x → (laws k).Is (parts_by tech library d.header) (change x)) → KeepsName (laws k).name change → ((x : Entry k) → (laws k).see (change x) ≡ (laws k).see x) → IsSound tech library cap d → IsSound tech library cap (on_entry k change id d)
+    sound_entry k change id lawful keeps same sound =
+        sound_table k (on_record change id (table_of k d)) (kind_on (parts_by tech library d.header) cap k change id (table_of k d) (λ x found is. lawful x is) keeps (sound.kinds k))
+        (view_on (λ o. option_map_or (laws k).see o (laws k).none) change id (table_of k d) (λ x found. same x)) sound
+
+    -- an object gets a name that no object of its kind has
+    pub sound_renamed : (k : Kind) (name : Lens (Entry k) (List ℕ)) → (laws k).name ≡ Some name → (new : List ℕ) (id : ℕ) → ((x : Entry k) → (laws k).Is (parts_by tech library d.header) x → (laws k).Is (parts_by tech library d.header) (name.set new x)) → ((x : Entry k) → (laws k).see (name.set new x) ≡ (laws k).see x) →
+        IsTrue (is_live (table_of k d) id) → ((other : ℕ) → name_by name.get other (table_of k d) ≢ Some new) → IsSound tech library cap d → IsSound tech library cap (on_entry k (name.set new) id d)
+    sound_renamed k name is new id lawful same live free sound =
+        let t = table_of k d in
+        let x = live_record t id live in
+        let named = subst (λ o. HasDistinctNames o t) is (sound.kinds k).named in
+        sound_table k (on_record (name.set new) id t)
+        (record {
+          table = table_on cap (name.set new) id t (sound.kinds k).table;
+          each = each_on ((laws k).Is (parts_by tech library d.header)) (name.set new) id t (λ x found is. lawful x is) (sound.kinds k).each;
+          named = subst (λ o. HasDistinctNames o (on_record (name.set new) id t)) (sym is)
+              (named_on name.get (name.set new) id x.value t x.is (λ other at. free other (at ∙ ap Some (name.set_get new x.value))) named);
+        })
+        (view_on (λ o. option_map_or (laws k).see o (laws k).none) (name.set new) id t (λ x found. same x)) sound
+
+    -- an object comes that shows what no object shows
+    pub sound_made : (k : Kind) (x : Entry k) → (laws k).see x ≡ (laws k).none → 1 ≤ length (table_of k d).free + (cap - length (table_of k d).slots) → (laws k).Is (parts_by tech library d.header) x → HasNewName (laws k).name x (table_of k d) → IsSound tech library cap d → IsSound tech library cap (with_table k (taken x (table_of k d)) d)
+    sound_made k x none room lawful new sound =
+        sound_table k (taken x (table_of k d)) (kind_taken (parts_by tech library d.header) cap k x (table_of k d) room lawful new (sound.kinds k))
+        (view_taken (λ o. option_map_or (laws k).see o (laws k).none) x (table_of k d) (sound.kinds k).table.good none) sound
+
+    -- an object goes that shows what no object shows
+    pub sound_gone : (k : Kind) (id : ℕ) → IsTrue (is_live (table_of k d) id) → view d k id ≡ (laws k).none → IsSound tech library cap d → IsSound tech library cap (with_table k (given id (table_of k d)) d)
+    sound_gone k id live none sound =
+        sound_table k (given id (table_of k d)) (kind_given (parts_by tech library d.header) cap k id (table_of k d) live (sound.kinds k))
+        (view_given (λ o. option_map_or (laws k).see o (laws k).none) id (table_of k d) live none) sound

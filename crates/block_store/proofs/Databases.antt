@@ -3,7 +3,10 @@ use Rattle.std.proofs.Common.{◌≡◌, ◌≤◌, ◌<◌, ◌-◌, ◌++◌, 
 use Rattle.std.specs.Option.{option_map, option_map_or}
 use Rattle.std.proofs.lemmas.Bool.Decides.{nat_tests}
 use Rattle.slot_pool.specs.Table.{record_at}
+use Rattle.odb_base.specs.declared.codes.kind.Kind.{Kind}
+use Rattle.odb_base.specs.declared.codes.kind.Kind.TheVariants as kind
 use Rattle.block_records.specs.Header.{new_header}
+use Rattle.block_records.specs.declared.header.Header.{Header}
 use Rattle.library.specs.Masters.{find_master, master_at}
 use Rattle.library.specs.declared.master.Master.{Master}
 use Rattle.named_list.proofs.Ids.{growing_keeps_ids, placed}
@@ -16,9 +19,18 @@ use Rattle.lawful_parts.specs.Lawful.{IsLayer, IsLibrary, IsMaster, IsSite, IsTe
 use Rattle.lawful_parts.proofs.Growing.{entering_keeps_libraries, growing_keeps_libraries, layer_has_grown, layers_keep_lawful, site_has_grown, sites_keep_lawful, units_have_grown, units_keep_lawful, via_has_grown, vias_keep_lawful}
 use Rattle.block_store.specs.Block.{Block, empty_block, empty_table}
 use Rattle.block_store.specs.Database.{Database, IsSoundDatabase, empty_database, with_master, with_tech}
-use Rattle.block_store.specs.Lists.{list_in}
+use Rattle.block_store.specs.KindLaws.{Parts}
+use Rattle.block_store.specs.Kinds.{Entry, table_of}
+use Rattle.block_store.specs.Lens.{Lens}
 use Rattle.block_store.specs.Names.{name_by}
-use Rattle.block_store.specs.Sound.{AreEach, AreHeld, AreNamed, ArePlaced, HasLawfulMasters, IsInst, IsSound, IsTable, term_count}
+use Rattle.block_store.specs.Instances.{term_count}
+use Rattle.block_store.specs.Sorts.{AreHeld, sort}
+use Rattle.block_store.specs.Sound.{HasLawfulMasters, IsKind, IsSound}
+use Rattle.block_store.specs.Tables.{AreEach, AreNamed, HasDistinctNames, IsTable}
+use Rattle.block_store.specs.View.{laws, view}
+use Rattle.block_store.proofs.Changed.{parts_by}
+use Rattle.block_store.proofs.Memberships.{no_list, no_name}
+use Rattle.block_store.specs.TermPlaces.{ArePlaced}
 
 module _ {A : Type 0} where
   -- an empty table has no record
@@ -47,25 +59,33 @@ placed_empty list place none nowhere = λ object k part. (
   λ found. let e = nowhere part in cc,
 )
 
--- a block without objects is sound
+module _ (parts : Parts) (cap : ℕ) where
+  names_empty : {A : Type 0} (name : Option (Lens A (List ℕ))) → HasDistinctNames name empty_table
+  names_empty None = tt
+  names_empty (Some name) = named_empty name.get
+
+  kind_empty : (k : Kind) → IsKind parts cap k empty_table
+  kind_empty k = record { table = table_empty cap; each = each_empty ((laws k).Is parts); named = names_empty (laws k).name }
+
+  kinds_empty : (header : Header) (k : Kind) → IsKind parts cap k (table_of k (empty_block header))
+  kinds_empty header kind.Inst = kind_empty kind.Inst
+  kinds_empty header k = kind_empty k
+
+-- a block without objects shows nothing
+view_empty : (header : Header) (k : Kind) (id : ℕ) → view (empty_block header) k id ≡ (laws k).none
+view_empty header kind.Inst id = ap (λ o. option_map_or (laws kind.Inst).see o (laws kind.Inst).none) (none_in_empty id)
+view_empty header k id = ap (λ o. option_map_or (laws k).see o (laws k).none) (none_in_empty id)
+
+-- and is sound
 pub sound_empty : (tech : Technology) (library : List Master) (cap : ℕ) → HasLawfulMasters library → IsSound tech library cap (empty_block new_header)
 sound_empty tech library cap lawful = record {
   masters = lawful;
   header = refl;
-  inst = table_empty cap;
-  iterm = table_empty cap;
-  net = table_empty cap;
-  bterm = table_empty cap;
-  others = record { pin = refl; row = refl; track = refl; wire = refl; blockage = refl; region = refl; group = refl; prop = refl };
-  insts = each_empty (IsInst library);
-  nets = each_empty _;
-  bterms = each_empty _;
-  inst_names = named_empty _;
-  net_names = named_empty _;
-  bterm_names = named_empty _;
-  iterms_held = held_empty _ _ _ (λ net. ap (list_in (λ e. e.terms)) (none_in_empty net)) (λ id. ap (λ r. option_map_or (λ r. r.net) r 0) (none_in_empty id));
-  bterms_held = held_empty _ _ _ (λ net. ap (list_in (λ e. e.terms)) (none_in_empty net)) (λ id. ap (λ e. option_map_or (λ e. e.fields.net) e 0) (none_in_empty id));
-  placed = placed_empty _ _ (λ inst. ap (list_in (λ e. e.fields.terminals)) (none_in_empty inst)) (λ id. ap (option_map (λ r. (r.inst, r.index))) (none_in_empty id));
+  kinds = kinds_empty (parts_by tech library new_header) cap new_header;
+  joined = record {
+    held = λ s. held_empty _ _ _ (λ object. ap (sort s).list_seen (view_empty new_header (sort s).owner object) ∙ no_list s) (λ member. ap (sort s).names_seen (view_empty new_header (sort s).member member) ∙ no_name s);
+    placed = placed_empty _ _ (λ inst. ap (λ links. links.terminals) (view_empty new_header kind.Inst inst)) (λ id. ap (λ links. links.place) (view_empty new_header kind.ITerm id));
+  };
 }
 
 -- an empty library has no master
@@ -100,31 +120,33 @@ fitted_by library more id n (Some m) is h = ap (option_map (λ (m : Master). len
 fitted_grown : (library more : List Master) (id n : ℕ) → term_count library id ≡ Some n → term_count (library ++ more) id ≡ Some n
 fitted_grown library more id n h = fitted_by library more id n (master_at library id) refl h
 
-sound_grown : (tech : Technology) (library more : List Master) (cap : ℕ) (b : Block) → HasLawfulMasters (library ++ more) → IsSound tech library cap b → IsSound tech (library ++ more) cap b
-sound_grown tech library more cap b lawful sound = record {
-  masters = lawful;
+-- entries stay lawful where a master comes last, and where a technology grows
+lawful_beside_masters : (tech : Technology) (library more : List Master) (header : Header) (k : Kind) (x : Entry k) → (laws k).Is (parts_by tech library header) x → (laws k).Is (parts_by tech (library ++ more) header) x
+lawful_beside_masters tech library more header kind.Inst x is = record {
+  name = is.name;
+  place = is.place;
+  fitted = fitted_grown library more x.fields.master _ is.fitted;
+  group = is.group;
+  kept = is.kept;
+  props = is.props;
+}
+lawful_beside_masters tech library more header k x is = is
+
+lawful_beside_tech : (tech new : Technology) (library : List Master) (header : Header) (k : Kind) (x : Entry k) → HasGrown tech new → (laws k).Is (parts_by tech library header) x → (laws k).Is (parts_by new library header) x
+lawful_beside_tech tech new library header kind.Inst x grown is = is
+lawful_beside_tech tech new library header k x grown is = is
+
+-- a block stays sound beside other parts, where its entries stay lawful
+sound_over : (tech new : Technology) (library more : List Master) (cap : ℕ) (b : Block) → HasLawfulMasters more → ((k : Kind) (x : Entry k) → (laws k).Is (parts_by tech library b.header) x → (laws k).Is (parts_by new more b.header) x) → IsSound tech library cap b → IsSound new more cap b
+sound_over tech new library more cap b masters lawful sound = record {
+  masters = masters;
   header = sound.header;
-  inst = sound.inst;
-  iterm = sound.iterm;
-  net = sound.net;
-  bterm = sound.bterm;
-  others = sound.others;
-  insts = λ id e found. let was = sound.insts id e found in record {
-    name = was.name;
-    place = was.place;
-    fitted = fitted_grown library more e.fields.master _ was.fitted;
-    group = was.group;
-    kept = was.kept;
-    props = was.props;
+  kinds = λ k. record {
+    table = (sound.kinds k).table;
+    each = λ id x found. lawful k x ((sound.kinds k).each id x found);
+    named = (sound.kinds k).named;
   };
-  nets = sound.nets;
-  bterms = sound.bterms;
-  inst_names = sound.inst_names;
-  net_names = sound.net_names;
-  bterm_names = sound.bterm_names;
-  iterms_held = sound.iterms_held;
-  bterms_held = sound.bterms_held;
-  placed = sound.placed;
+  joined = sound.joined;
 }
 
 -- a lawful master of a new name comes last
@@ -134,37 +156,16 @@ sound_with_master d m sound lawful new room =
     record {
       tech = sound.tech;
       library = grown;
-      block = sound_grown d.tech d.library (m ∷ []) d.cap d.block (lawful_masters d.tech _ grown) sound.block;
+      block = sound_over d.tech d.tech d.library (d.library ++ m ∷ []) d.cap d.block (lawful_masters d.tech _ grown) (lawful_beside_masters d.tech d.library (m ∷ []) d.block.header) sound.block;
       capped = sound.capped;
     }
-
--- nothing in a block names a part of the technology yet
-sound_over : (t u : Technology) (library : List Master) (cap : ℕ) (b : Block) → IsSound t library cap b → IsSound u library cap b
-sound_over t u library cap b sound = record {
-  masters = sound.masters;
-  header = sound.header;
-  inst = sound.inst;
-  iterm = sound.iterm;
-  net = sound.net;
-  bterm = sound.bterm;
-  others = sound.others;
-  insts = sound.insts;
-  nets = sound.nets;
-  bterms = sound.bterms;
-  inst_names = sound.inst_names;
-  net_names = sound.net_names;
-  bterm_names = sound.bterm_names;
-  iterms_held = sound.iterms_held;
-  bterms_held = sound.bterms_held;
-  placed = sound.placed;
-}
 
 -- another lawful technology with as many layers and sites, or more
 sound_with_tech : (d : Database) (t : Technology) → IsSoundDatabase d → IsTechnology t → HasGrown d.tech t → IsSoundDatabase (with_tech t d)
 sound_with_tech d t sound lawful grown = record {
   tech = lawful;
   library = growing_keeps_libraries d.tech t d.library grown sound.library;
-  block = sound_over d.tech t d.library d.cap d.block sound.block;
+  block = sound_over d.tech t d.library d.library d.cap d.block sound.block.masters (λ k x is. lawful_beside_tech d.tech t d.library d.block.header k x grown is) sound.block;
   capped = sound.capped;
 }
 

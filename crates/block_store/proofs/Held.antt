@@ -4,7 +4,8 @@ use Rattle.std.proofs.lemmas.Bool.{cases_Bool, cases_eq, eqb-true, eqb-false, fa
 use Rattle.odb_base.specs.Ids.{IsDistinct, holds, without}
 use Rattle.slot_pool.specs.Table.{once_if, times}
 use Rattle.slot_pool.proofs.Counts.{times-cons, times_cons_other, times_cons_same}
-use Rattle.block_store.specs.Sound.{AreHeld, ArePlaced}
+use Rattle.block_store.specs.Sorts.{AreHeld}
+use Rattle.block_store.specs.TermPlaces.{ArePlaced}
 
 -- a member stands in the list at least once
 pub times_held : (ids : List ℕ) (id : ℕ) → holds ids id ≡ true → 1 ≤ times id ids

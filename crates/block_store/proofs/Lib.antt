@@ -3,8 +3,12 @@ pub mod Databases
 pub mod Held
 pub mod Joined
 pub mod Limits
+pub mod Memberships
+pub mod MovedMembers
 pub mod Naming
+pub mod OneTable
 pub mod Places
+pub mod SetFields
 pub mod Shown
 pub mod Slots
 pub mod TableLemmas

@@ -7,7 +7,7 @@ use Rattle.slot_pool.specs.Table.{IsGood, Table, given, is_live, next_id, record
 use Rattle.block_store.specs.Block.{empty_table, is_empty}
 use Rattle.block_store.specs.Lists.{on_record}
 use Rattle.block_store.specs.Names.{name_by}
-use Rattle.block_store.specs.Sound.{AreEach, AreNamed, IsTable}
+use Rattle.block_store.specs.Tables.{AreEach, AreNamed, IsTable}
 use Rattle.block_store.proofs.TableLemmas.{at_given, at_given_other, at_next, at_on, at_on_other, at_taken, at_taken_other, good_given, good_on, good_taken, on_missing, slots_given, slots_on, slots_taken}
 
 module _ {A : Type 0} where

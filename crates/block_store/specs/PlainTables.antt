@@ -1,7 +1,7 @@
 -- Tables of which a block can be made.
 use Rattle.std.specs.Prelude.{ℕ}
 use Rattle.block_store.specs.Block.{Block}
-use Rattle.block_store.specs.Sound.{IsTable}
+use Rattle.block_store.specs.Tables.{IsTable}
 
 -- each table is good, with at most so many slots
 pub record AreTables (cap : ℕ) (b : Block) : Type 0 where

@@ -3,7 +3,7 @@ ghost use Rattle.odb_base.specs.declared.codes.kind.Kind.{Kind as AnyKind};
 ghost use Rattle.block_records.specs.Header.{new_header};
 ghost use Rattle.block_store.specs.Block.{empty_block, free_in, left_in, live_in, slots_in};
 ghost use Rattle.block_store.specs.PlainTables.{AreTables};
-ghost use Rattle.block_store.specs.Sound.{IsTable};
+ghost use Rattle.block_store.specs.Tables.{IsTable};
 ghost use Rattle.block_store.specs.Store.{ChangesRoom, IsRoomBounded, room_of};
 
 use crate::entry::{BTermEntry, GroupEntry, InstEntry, NetEntry, RegionEntry, RowEntry};

@@ -3,6 +3,8 @@ ghost use Rattle.std.specs.Iterator.{YieldsFirst, item_count};
 ghost use Rattle.block_store.specs.Block.{free_in};
 
 use crate::block::Block;
+use crate::entry::{BTermEntry, GroupEntry, InstEntry, NetEntry, RegionEntry, RowEntry};
+use block_records::{BlockageRec, ITermRec, PinRec, PropRec, TrackRec, WireRec};
 use odb_base::Kind;
 use slot_pool::FreeIds as PoolFreeIds;
 use std::marker::Model;
@@ -10,7 +12,24 @@ use std::marker::Model;
 /// The free identifiers of a kind that are left, top first. Contracts see their list.
 #[derive(Drop)]
 pub struct FreeIds<'a> {
-    left: PoolFreeIds<'a, ()>,
+    left: Left<'a>,
+}
+
+// The free identifiers in the pool of a kind.
+#[derive(Drop)]
+pub(crate) enum Left<'a> {
+    Inst(PoolFreeIds<'a, InstEntry>),
+    ITerm(PoolFreeIds<'a, ITermRec>),
+    Net(PoolFreeIds<'a, NetEntry>),
+    BTerm(PoolFreeIds<'a, BTermEntry>),
+    Pin(PoolFreeIds<'a, PinRec>),
+    Row(PoolFreeIds<'a, RowEntry>),
+    Track(PoolFreeIds<'a, TrackRec>),
+    Wire(PoolFreeIds<'a, WireRec>),
+    Blockage(PoolFreeIds<'a, BlockageRec>),
+    Region(PoolFreeIds<'a, RegionEntry>),
+    Group(PoolFreeIds<'a, GroupEntry>),
+    Prop(PoolFreeIds<'a, PropRec>),
 }
 
 impl<'a> Model for FreeIds<'a> {
@@ -18,7 +37,9 @@ impl<'a> Model for FreeIds<'a> {
 
     ghost Value = { List ℕ };
 
-    ghost view = { λ ids. ids.left };
+    ghost use Rattle.block_store.specs.FreeIds.{left_ids};
+
+    ghost view = { λ ids. left_ids ids.left };
 }
 
 impl<'a> Iterator for FreeIds<'a> {
@@ -29,7 +50,20 @@ impl<'a> Iterator for FreeIds<'a> {
     ghost remaining = { item_count (λ ids. ids) };
 
     fn next(&mut self) -> Option<u32> {
-        self.left.next()
+        match &mut self.left {
+            Left::Inst(ids) => ids.next(),
+            Left::ITerm(ids) => ids.next(),
+            Left::Net(ids) => ids.next(),
+            Left::BTerm(ids) => ids.next(),
+            Left::Pin(ids) => ids.next(),
+            Left::Row(ids) => ids.next(),
+            Left::Track(ids) => ids.next(),
+            Left::Wire(ids) => ids.next(),
+            Left::Blockage(ids) => ids.next(),
+            Left::Region(ids) => ids.next(),
+            Left::Group(ids) => ids.next(),
+            Left::Prop(ids) => ids.next(),
+        }
     }
 }
 
@@ -39,18 +73,18 @@ impl Block {
         ensures { result ≡ free_in kind self.now.block }
     {
         let left = match kind {
-            Kind::Inst => self.inst.free().untyped(),
-            Kind::ITerm => self.iterm.free().untyped(),
-            Kind::Net => self.net.free().untyped(),
-            Kind::BTerm => self.bterm.free().untyped(),
-            Kind::Pin => self.pin.free().untyped(),
-            Kind::Row => self.row.free().untyped(),
-            Kind::Track => self.track.free().untyped(),
-            Kind::Wire => self.wire.free().untyped(),
-            Kind::Blockage => self.blockage.free().untyped(),
-            Kind::Region => self.region.free().untyped(),
-            Kind::Group => self.group.free().untyped(),
-            Kind::Prop => self.prop.free().untyped(),
+            Kind::Inst => Left::Inst(self.inst.free()),
+            Kind::ITerm => Left::ITerm(self.iterm.free()),
+            Kind::Net => Left::Net(self.net.free()),
+            Kind::BTerm => Left::BTerm(self.bterm.free()),
+            Kind::Pin => Left::Pin(self.pin.free()),
+            Kind::Row => Left::Row(self.row.free()),
+            Kind::Track => Left::Track(self.track.free()),
+            Kind::Wire => Left::Wire(self.wire.free()),
+            Kind::Blockage => Left::Blockage(self.blockage.free()),
+            Kind::Region => Left::Region(self.region.free()),
+            Kind::Group => Left::Group(self.group.free()),
+            Kind::Prop => Left::Prop(self.prop.free()),
         };
         FreeIds { left }
     }

@@ -1,7 +1,7 @@
 ghost use Rattle.std.specs.Prelude.{◌≡◌, ◌↔◌, IfOk, IsTrue, option_copied};
 ghost use Rattle.slot_pool.specs.Table.{record_at};
 ghost use Rattle.block_store.specs.Block.{empty_table, slots_in};
-ghost use Rattle.block_store.specs.Sound.{IsTable};
+ghost use Rattle.block_store.specs.Tables.{IsTable};
 
 use crate::entry::{BTermEntry, GroupEntry, InstEntry, NetEntry, RegionEntry, RowEntry};
 use block_records::{BlockageRec, Header, ITermRec, PinRec, PropRec, TrackRec, WireRec};

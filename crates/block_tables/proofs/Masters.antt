@@ -10,13 +10,14 @@ use Rattle.library.specs.Masters.{master_at}
 use Rattle.named_list.specs.Naming.{AreNamesDistinct}
 use Rattle.library.specs.Terminals.{HasDistinctTerminals}
 use Rattle.library.specs.declared.master.Master.{Master}
+use Rattle.tech.specs.Technology.{Technology}
 use Rattle.block_store.specs.Block.{Block}
 use Rattle.block_store.specs.Sound.{HasLawfulMasters}
 use Rattle.block_tables.specs.Rules.{IsSoundHeader}
 use Rattle.block_tables.proofs.Aloneness.{one_passes, same_place}
 
-pub sound_header : (library : List Master) (b : Block) → HasLawfulMasters library → b.header ≡ new_header → IsSoundHeader library b
-sound_header library b masters header = record { masters = masters; header = header }
+pub sound_header : (tech : Technology) (library : List Master) (b : Block) → HasLawfulMasters library → b.header ≡ new_header → IsSoundHeader tech library b
+sound_header tech library b masters header = record { masters = masters; header = header }
 
 module _ (library : List Master) where
   some_master : (id : ℕ) (o : Option Master) (P : Master → Type 0) → ((m : Master) → o ≡ Some m → P m) → IfSome o P

@@ -13,16 +13,16 @@ use Rattle.block_tables.proofs.PartsOfSound.{sound_kind}
 use Rattle.block_tables.proofs.SoundOfParts.{sound_block}
 
 module _ (tech : Technology) (library : List Master) (cap : ℕ) (b : Block) where
-  pub parts_of_sound : IsSound tech library cap b → AreSoundParts library cap b
+  pub parts_of_sound : IsSound tech library cap b → AreSoundParts tech library cap b
   parts_of_sound s = record {
     header = record { masters = s.masters; header = s.header };
     kinds = sound_kind tech library cap b s;
   }
 
   pub sound_by_parts : SoundByParts tech library cap b
-  sound_by_parts = (parts_of_sound, λ parts. sound_block library cap b parts tech)
+  sound_by_parts = (parts_of_sound, λ parts. sound_block tech library cap b parts)
 
-  pub no_fault : AreSoundParts library cap b → (kind : Option Kind) (id : ℕ) → IsLeastFault library cap b kind id → ⊥
+  pub no_fault : AreSoundParts tech library cap b → (kind : Option Kind) (id : ℕ) → IsLeastFault tech library cap b kind id → ⊥
   no_fault parts None id fault = fault.header parts.header
   no_fault parts (Some k) id fault = elim (cases_lt 0 id) [
     | inl some ↦ fault.first.this (omega arith) ((parts.kinds k).records id)

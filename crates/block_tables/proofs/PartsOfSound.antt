@@ -14,7 +14,9 @@ use Rattle.block_store.specs.declared.entry.InstEntry.{InstEntry}
 use Rattle.block_store.specs.declared.entry.NetEntry.{NetEntry}
 use Rattle.block_store.specs.Block.{Block}
 use Rattle.block_store.specs.Lists.{bterm_number, iterm_number, list_in}
-use Rattle.block_store.specs.Sound.{AreNamed, IsSound, bterm_net, inst_terms, iterm_net, iterm_place, net_terms}
+use Rattle.block_store.specs.Sound.{IsSound, bterm_net, inst_terms, iterm_net, iterm_place, net_terms}
+use Rattle.block_store.specs.Tables.{AreNamed}
+use Rattle.block_store.proofs.Joined.{bterms_held, iterms_held, terms_placed}
 use Rattle.block_tables.specs.Names.{IsAlone}
 use Rattle.block_tables.specs.RuleBlockTerminals.{IsSoundBTerm}
 use Rattle.block_tables.specs.RuleInstances.{IsSoundInst}
@@ -63,22 +65,22 @@ owned_once n owner id is same = grind (arith, nat_tests, is, same)
 module _ (tech : Technology) (library : List Master) (cap : ℕ) (b : Block) (s : IsSound tech library cap b) where
   sound_inst : (id : ℕ) (e : InstEntry) → record_at b.inst id ≡ Some e → IsSoundInst library b id e
   sound_inst id e at = record {
-    values = s.insts id e at;
-    alone = alone (λ (e : InstEntry). e.fields.name) b.inst id e s.inst_names at;
-    terminals = λ place part h. (s.placed id place part).0 (ap (λ o. slice_get (list_in (λ (e : InstEntry). e.fields.terminals) o) place) at ∙ h);
+    values = (s.kinds kind.Inst).each id e at;
+    alone = alone (λ (e : InstEntry). e.fields.name) b.inst id e (s.kinds kind.Inst).named at;
+    terminals = λ place part h. (terms_placed tech library cap b s id place part).0 (ap (λ o. slice_get (list_in (λ (e : InstEntry). e.fields.terminals) o) place) at ∙ h);
   }
 
   sound_iterm : (id : ℕ) (r : ITermRec) → record_at b.iterm id ≡ Some r → IsSoundITerm b id r
   sound_iterm id r at = record {
-    place = (s.placed r.inst r.index id).1 (ap (option_map (λ (r : ITermRec). (r.inst, r.index))) at);
-    joined = λ some. owned_once (times (iterm_number id) (net_terms b r.net)) (iterm_net b id) r.net (s.iterms_held r.net id (omega arith)) (ap (λ o. option_map_or (λ (r : ITermRec). r.net) o 0) at);
+    place = (terms_placed tech library cap b s r.inst r.index id).1 (ap (option_map (λ (r : ITermRec). (r.inst, r.index))) at);
+    joined = λ some. owned_once (times (iterm_number id) (net_terms b r.net)) (iterm_net b id) r.net (iterms_held tech library cap b s r.net id (omega arith)) (ap (λ o. option_map_or (λ (r : ITermRec). r.net) o 0) at);
   }
 
   sound_bterm : (id : ℕ) (e : BTermEntry) → record_at b.bterm id ≡ Some e → IsSoundBTerm b id e
   sound_bterm id e at = record {
-    values = s.bterms id e at;
-    alone = alone (λ (e : BTermEntry). e.fields.name) b.bterm id e s.bterm_names at;
-    joined = λ some. owned_once (times (bterm_number id) (net_terms b e.fields.net)) (bterm_net b id) e.fields.net (s.bterms_held e.fields.net id (omega arith)) (ap (λ o. option_map_or (λ (e : BTermEntry). e.fields.net) o 0) at);
+    values = (s.kinds kind.BTerm).each id e at;
+    alone = alone (λ (e : BTermEntry). e.fields.name) b.bterm id e (s.kinds kind.BTerm).named at;
+    joined = λ some. owned_once (times (bterm_number id) (net_terms b e.fields.net)) (bterm_net b id) e.fields.net (bterms_held tech library cap b s e.fields.net id (omega arith)) (ap (λ o. option_map_or (λ (e : BTermEntry). e.fields.net) o 0) at);
   }
 
   -- the members of a net's list
@@ -86,11 +88,11 @@ module _ (tech : Technology) (library : List Master) (cap : ℕ) (b : Block) (s 
   held_once id number some held = elim (cases_eq (number % 2) 0) [
     | inl even ↦
         let is : iterm_number (number / 2) ≡ number = omega arith in
-        let counted : times number (net_terms b id) ≡ once_if (eqb (term_net b number) id) = ap (λ n. times n (net_terms b id)) (sym is) ∙ s.iterms_held id (number / 2) some ∙ ap (λ n. once_if (eqb n id)) (sym (term_net-even b (number / 2)) ∙ ap (term_net b) is) in
+        let counted : times number (net_terms b id) ≡ once_if (eqb (term_net b number) id) = ap (λ n. times n (net_terms b id)) (sym is) ∙ iterms_held tech library cap b s id (number / 2) some ∙ ap (λ n. once_if (eqb n id)) (sym (term_net-even b (number / 2)) ∙ ap (term_net b) is) in
         counted_once (times number (net_terms b id)) (term_net b number) id counted held
     | inr odd ↦
         let is : bterm_number (number / 2) ≡ number = omega arith in
-        let counted : times number (net_terms b id) ≡ once_if (eqb (term_net b number) id) = ap (λ n. times n (net_terms b id)) (sym is) ∙ s.bterms_held id (number / 2) some ∙ ap (λ n. once_if (eqb n id)) (sym (term_net-odd b (number / 2)) ∙ ap (term_net b) is) in
+        let counted : times number (net_terms b id) ≡ once_if (eqb (term_net b number) id) = ap (λ n. times n (net_terms b id)) (sym is) ∙ bterms_held tech library cap b s id (number / 2) some ∙ ap (λ n. once_if (eqb n id)) (sym (term_net-odd b (number / 2)) ∙ ap (term_net b) is) in
         counted_once (times number (net_terms b id)) (term_net b number) id counted held
   ]
 
@@ -99,21 +101,21 @@ module _ (tech : Technology) (library : List Master) (cap : ℕ) (b : Block) (s 
       let same : net_terms b id ≡ e.terms = ap (list_in (λ (e : NetEntry). e.terms)) at in
       let P : List ℕ → Type 0 = λ numbers. AreTerminals b id numbers in
       record {
-        values = s.nets id e at;
-        alone = alone (λ (e : NetEntry). e.fields.name) b.net id e s.net_names at;
+        values = (s.kinds kind.Net).each id e at;
+        alone = alone (λ (e : NetEntry). e.fields.name) b.net id e (s.kinds kind.Net).named at;
         terminals = subst P same (λ number held. held_once id number (some_id b.net id e at) held);
       }
 
-  pub sound_kind : (k : Kind) → IsSoundKind library cap b k
-  sound_kind kind.Inst = record { table = s.inst; records = λ id. if_there (record_at b.inst id) (λ e. IsSoundInst library b id e) (sound_inst id) }
-  sound_kind kind.ITerm = record { table = s.iterm; records = λ id. if_there (record_at b.iterm id) (λ r. IsSoundITerm b id r) (sound_iterm id) }
-  sound_kind kind.Net = record { table = s.net; records = λ id. if_there (record_at b.net id) (λ e. IsSoundNet b id e) (sound_net id) }
-  sound_kind kind.BTerm = record { table = s.bterm; records = λ id. if_there (record_at b.bterm id) (λ e. IsSoundBTerm b id e) (sound_bterm id) }
-  sound_kind kind.Pin = record { table = s.others.pin; records = λ id. tt }
-  sound_kind kind.Row = record { table = s.others.row; records = λ id. tt }
-  sound_kind kind.Track = record { table = s.others.track; records = λ id. tt }
-  sound_kind kind.Wire = record { table = s.others.wire; records = λ id. tt }
-  sound_kind kind.Blockage = record { table = s.others.blockage; records = λ id. tt }
-  sound_kind kind.Region = record { table = s.others.region; records = λ id. tt }
-  sound_kind kind.Group = record { table = s.others.group; records = λ id. tt }
-  sound_kind kind.Prop = record { table = s.others.prop; records = λ id. tt }
+  pub sound_kind : (k : Kind) → IsSoundKind tech library cap b k
+  sound_kind kind.Inst = record { table = (s.kinds kind.Inst).table; records = λ id. if_there (record_at b.inst id) (λ e. IsSoundInst library b id e) (sound_inst id) }
+  sound_kind kind.ITerm = record { table = (s.kinds kind.ITerm).table; records = λ id. if_there (record_at b.iterm id) (λ r. IsSoundITerm b id r) (sound_iterm id) }
+  sound_kind kind.Net = record { table = (s.kinds kind.Net).table; records = λ id. if_there (record_at b.net id) (λ e. IsSoundNet b id e) (sound_net id) }
+  sound_kind kind.BTerm = record { table = (s.kinds kind.BTerm).table; records = λ id. if_there (record_at b.bterm id) (λ e. IsSoundBTerm b id e) (sound_bterm id) }
+  sound_kind kind.Pin = record { table = (s.kinds kind.Pin).table; records = λ id. if_there (record_at b.pin id) (λ r. ⊥) ((s.kinds kind.Pin).each id) }
+  sound_kind kind.Row = record { table = (s.kinds kind.Row).table; records = λ id. if_there (record_at b.row id) (λ r. ⊥) ((s.kinds kind.Row).each id) }
+  sound_kind kind.Track = record { table = (s.kinds kind.Track).table; records = λ id. if_there (record_at b.track id) (λ r. ⊥) ((s.kinds kind.Track).each id) }
+  sound_kind kind.Wire = record { table = (s.kinds kind.Wire).table; records = λ id. if_there (record_at b.wire id) (λ r. ⊥) ((s.kinds kind.Wire).each id) }
+  sound_kind kind.Blockage = record { table = (s.kinds kind.Blockage).table; records = λ id. if_there (record_at b.blockage id) (λ r. ⊥) ((s.kinds kind.Blockage).each id) }
+  sound_kind kind.Region = record { table = (s.kinds kind.Region).table; records = λ id. if_there (record_at b.region id) (λ r. ⊥) ((s.kinds kind.Region).each id) }
+  sound_kind kind.Group = record { table = (s.kinds kind.Group).table; records = λ id. if_there (record_at b.group id) (λ r. ⊥) ((s.kinds kind.Group).each id) }
+  sound_kind kind.Prop = record { table = (s.kinds kind.Prop).table; records = λ id. if_there (record_at b.prop id) (λ r. ⊥) ((s.kinds kind.Prop).each id) }

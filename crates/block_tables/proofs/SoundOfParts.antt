@@ -13,9 +13,16 @@ use Rattle.block_store.specs.declared.entry.BTermEntry.{BTermEntry}
 use Rattle.block_store.specs.declared.entry.InstEntry.{InstEntry}
 use Rattle.block_store.specs.declared.entry.NetEntry.{NetEntry}
 use Rattle.block_store.specs.Block.{Block}
+use Rattle.block_store.specs.Kinds.{table_of}
 use Rattle.block_store.specs.Lists.{bterm_number, iterm_number, list_in}
 use Rattle.block_store.specs.Names.{name_by}
-use Rattle.block_store.specs.Sound.{AreEach, AreHeld, AreNamed, ArePlaced, IsSound, bterm_net, inst_terms, iterm_net, iterm_place, net_terms}
+use Rattle.block_store.specs.Sorts.{AreHeld, BTermsOfNet, ITermsOfNet, IsHeld, Sort, list_of, owner_of}
+use Rattle.block_store.specs.Sound.{IsKind, IsSound, bterm_net, inst_terms, iterm_net, iterm_place, net_terms}
+use Rattle.block_store.specs.Tables.{AreEach, AreNamed}
+use Rattle.block_store.specs.TermPlaces.{ArePlaced, place_of, terminals_of}
+use Rattle.block_store.specs.View.{view}
+use Rattle.block_store.proofs.Held.{held_stands, placed_stands}
+use Rattle.block_store.proofs.Joined.{bterm_seen, iterm_seen, place_seen, terminals_seen, terms_seen}
 use Rattle.block_tables.specs.Names.{IsAlone}
 use Rattle.block_tables.specs.RuleBlockTerminals.{IsSoundBTerm}
 use Rattle.block_tables.specs.RuleInstances.{IsSoundInst}
@@ -59,7 +66,7 @@ module _ {A : Type 0} where
       let found = named name_of (record_at t other) name h' in
       each other found.0 found.1 one (h ∙ ap Some (sym found.2))
 
-module _ (library : List Master) (cap : ℕ) (b : Block) (parts : AreSoundParts library cap b) where
+module _ (tech : Technology) (library : List Master) (cap : ℕ) (b : Block) (parts : AreSoundParts tech library cap b) where
   inst : (id : ℕ) (e : InstEntry) → record_at b.inst id ≡ Some e → IsSoundInst library b id e
   inst id e at = there (record_at b.inst id) (λ e. IsSoundInst library b id e) e ((parts.kinds kind.Inst).records id) at
 
@@ -121,31 +128,35 @@ module _ (library : List Master) (cap : ℕ) (b : Block) (parts : AreSoundParts 
   placed : ArePlaced (inst_terms b) (iterm_place b)
   placed id place part = (stands id place part, names id place part)
 
-  pub sound_block : (tech : Technology) → IsSound tech library cap b
-  sound_block tech = record {
+  -- of a kind that is still to come there is no record
+  none_yet : {A : Type 0} (t : Table A) → ((id : ℕ) → IfSome (record_at t id) (λ x. ⊥)) → AreEach (λ x. ⊥) t
+  none_yet t none = λ id x at. there (record_at t id) (λ x. ⊥) x (none id) at
+
+  kinds : (k : Kind) → IsKind (record { tech = tech; library = library; header = b.header }) cap k (table_of k b)
+  kinds kind.Inst = record { table = (parts.kinds kind.Inst).table; each = λ id e at. (inst id e at).values; named = are_named (λ (e : InstEntry). e.fields.name) b.inst (λ id e at. (inst id e at).alone) }
+  kinds kind.ITerm = record { table = (parts.kinds kind.ITerm).table; each = λ id r at. tt; named = tt }
+  kinds kind.Net = record { table = (parts.kinds kind.Net).table; each = λ id e at. (net id e at).values; named = are_named (λ (e : NetEntry). e.fields.name) b.net (λ id e at. (net id e at).alone) }
+  kinds kind.BTerm = record { table = (parts.kinds kind.BTerm).table; each = λ id e at. (bterm id e at).values; named = are_named (λ (e : BTermEntry). e.fields.name) b.bterm (λ id e at. (bterm id e at).alone) }
+  kinds kind.Pin = record { table = (parts.kinds kind.Pin).table; each = none_yet b.pin (parts.kinds kind.Pin).records; named = tt }
+  kinds kind.Row = record { table = (parts.kinds kind.Row).table; each = none_yet b.row (parts.kinds kind.Row).records; named = are_named (λ e. e.fields.name) b.row (λ id e at. absurd (none_yet b.row (parts.kinds kind.Row).records id e at)) }
+  kinds kind.Track = record { table = (parts.kinds kind.Track).table; each = none_yet b.track (parts.kinds kind.Track).records; named = tt }
+  kinds kind.Wire = record { table = (parts.kinds kind.Wire).table; each = none_yet b.wire (parts.kinds kind.Wire).records; named = tt }
+  kinds kind.Blockage = record { table = (parts.kinds kind.Blockage).table; each = none_yet b.blockage (parts.kinds kind.Blockage).records; named = tt }
+  kinds kind.Region = record { table = (parts.kinds kind.Region).table; each = none_yet b.region (parts.kinds kind.Region).records; named = are_named (λ e. e.fields.name) b.region (λ id e at. absurd (none_yet b.region (parts.kinds kind.Region).records id e at)) }
+  kinds kind.Group = record { table = (parts.kinds kind.Group).table; each = none_yet b.group (parts.kinds kind.Group).records; named = are_named (λ e. e.fields.name) b.group (λ id e at. absurd (none_yet b.group (parts.kinds kind.Group).records id e at)) }
+  kinds kind.Prop = record { table = (parts.kinds kind.Prop).table; each = none_yet b.prop (parts.kinds kind.Prop).records; named = tt }
+
+  held_in : (s : Sort) → IsHeld s (view b)
+  held_in ITermsOfNet = held_stands (net_terms b) (list_of ITermsOfNet (view b)) iterm_number (iterm_net b) (owner_of ITermsOfNet (view b)) (terms_seen b) (iterm_seen b) iterms_held
+  held_in BTermsOfNet = held_stands (net_terms b) (list_of BTermsOfNet (view b)) bterm_number (bterm_net b) (owner_of BTermsOfNet (view b)) (terms_seen b) (bterm_seen b) bterms_held
+
+  pub sound_block : IsSound tech library cap b
+  sound_block = record {
     masters = parts.header.masters;
     header = parts.header.header;
-    inst = (parts.kinds kind.Inst).table;
-    iterm = (parts.kinds kind.ITerm).table;
-    net = (parts.kinds kind.Net).table;
-    bterm = (parts.kinds kind.BTerm).table;
-    others = record {
-      pin = (parts.kinds kind.Pin).table;
-      row = (parts.kinds kind.Row).table;
-      track = (parts.kinds kind.Track).table;
-      wire = (parts.kinds kind.Wire).table;
-      blockage = (parts.kinds kind.Blockage).table;
-      region = (parts.kinds kind.Region).table;
-      group = (parts.kinds kind.Group).table;
-      prop = (parts.kinds kind.Prop).table;
+    kinds = kinds;
+    joined = record {
+      held = held_in;
+      placed = placed_stands (inst_terms b) (terminals_of (view b)) (iterm_place b) (place_of (view b)) (terminals_seen b) (place_seen b) placed;
     };
-    insts = λ id e at. (inst id e at).values;
-    nets = λ id e at. (net id e at).values;
-    bterms = λ id e at. (bterm id e at).values;
-    inst_names = are_named (λ (e : InstEntry). e.fields.name) b.inst (λ id e at. (inst id e at).alone);
-    net_names = are_named (λ (e : NetEntry). e.fields.name) b.net (λ id e at. (net id e at).alone);
-    bterm_names = are_named (λ (e : BTermEntry). e.fields.name) b.bterm (λ id e at. (bterm id e at).alone);
-    iterms_held = iterms_held;
-    bterms_held = bterms_held;
-    placed = placed;
   }

@@ -10,8 +10,8 @@ use Rattle.block_tables.specs.Rules.{AreSoundParts}
 
 -- a block is sound exactly where its header, its tables and its records are
 abbrev pub SoundByParts : Technology → List Master → ℕ → Block → Type 0
-SoundByParts tech library cap b = IsSound tech library cap b ↔ AreSoundParts library cap b
+SoundByParts tech library cap b = IsSound tech library cap b ↔ AreSoundParts tech library cap b
 
 -- where there is a least place that isn't sound, the block isn't
 abbrev pub FaultsAreUnsound : Technology → List Master → ℕ → Block → Type 0
-FaultsAreUnsound tech library cap b = (kind : Option Kind) (id : ℕ) → IsLeastFault library cap b kind id → ¬ (IsSound tech library cap b)
+FaultsAreUnsound tech library cap b = (kind : Option Kind) (id : ℕ) → IsLeastFault tech library cap b kind id → ¬ (IsSound tech library cap b)

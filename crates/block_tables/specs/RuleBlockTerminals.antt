@@ -4,7 +4,8 @@ use Rattle.slot_pool.specs.Table.{times}
 use Rattle.block_store.specs.declared.entry.BTermEntry.{BTermEntry}
 use Rattle.block_store.specs.Block.{Block}
 use Rattle.block_store.specs.Lists.{bterm_number}
-use Rattle.block_store.specs.Sound.{IsBTerm, net_terms}
+use Rattle.block_store.specs.BlockTerminals.{IsBTerm}
+use Rattle.block_store.specs.Sound.{net_terms}
 use Rattle.block_tables.specs.Names.{IsAlone}
 
 -- the block terminal of an identifier is sound

@@ -3,7 +3,8 @@ use Rattle.std.specs.Prelude.{◌≡◌, List, ℕ, Some, slice_get}
 use Rattle.library.specs.declared.master.Master.{Master}
 use Rattle.block_store.specs.declared.entry.InstEntry.{InstEntry}
 use Rattle.block_store.specs.Block.{Block}
-use Rattle.block_store.specs.Sound.{IsInst, iterm_place}
+use Rattle.block_store.specs.Instances.{IsInst}
+use Rattle.block_store.specs.Sound.{iterm_place}
 use Rattle.block_tables.specs.Names.{IsAlone}
 
 -- each of an instance's terminals is there, names it, and has its place there as its index

@@ -3,7 +3,8 @@ use Rattle.std.specs.Prelude.{◌≡◌, ◌==◌, ◌%◌, ◌/◌, ◌≤◌, 
 use Rattle.slot_pool.specs.Table.{times}
 use Rattle.block_store.specs.declared.entry.NetEntry.{NetEntry}
 use Rattle.block_store.specs.Block.{Block}
-use Rattle.block_store.specs.Sound.{IsNet, bterm_net, iterm_net}
+use Rattle.block_store.specs.Nets.{IsNet}
+use Rattle.block_store.specs.Sound.{bterm_net, iterm_net}
 use Rattle.block_tables.specs.Names.{IsAlone}
 
 -- the net that the terminal of a number is joined to, 0 for none: an even number is twice the identifier of an

@@ -45,9 +45,7 @@ impl FromTables for Block {
         library: &Library,
         cap: u32,
     ) -> Result<Block, TablesFault> {
-        // Nothing in a block names a part of the technology yet.
-        let _tech = tech;
-        match check(alloc, &tables, library) {
+        match check(alloc, &tables, tech, library) {
             Err(fault) => {
                 drop(tables);
                 Err(fault)

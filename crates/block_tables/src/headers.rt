@@ -12,16 +12,20 @@ use block_store::Tables;
 use library::{Library, MTerm};
 use odb_base::MasterId;
 use std::alloc::{AllocError, Global};
+use tech::Tech;
 
 // Whether no master has two terminals of one name, and the header is that of a new block.
 #[tactic(auto, using(crate::proofs::Masters::sound_header))]
 pub(crate) fn is_sound_header(
     alloc: Global,
     tables: &Tables,
+    tech: &Tech,
     library: &Library,
 ) -> Result<bool, AllocError>
-    ensures { IfOk result (λ sound. IsTrue sound ↔ IsSoundHeader library.now tables.now) }
+    ensures { IfOk result (λ sound. IsTrue sound ↔ IsSoundHeader tech.now library.now tables.now) }
 {
+    // Nothing in a header names a part of the technology yet.
+    let _tech = tech;
     let distinct = have_distinct_terminals(alloc, library)?;
     Ok(distinct && is_new_header(&tables.header))
 }

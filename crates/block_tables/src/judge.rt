@@ -1,7 +1,8 @@
-ghost use Rattle.std.specs.Prelude.{◌≡◌, ◌≢◌, ◌↔◌, ◌+◌, ◌<◌, ◌≤◌, ℕ, IfNone, IfOk, IfSome, IsTrue, OnOk, None, Some};
+ghost use Rattle.std.specs.Prelude.{◌≡◌, ◌≢◌, ◌↔◌, ◌+◌, ◌<◌, ◌≤◌, ℕ, IfNone, IfOk, IfSome, IsTrue, OnOk, None, Some, option_copied};
 ghost use Rattle.slot_pool.specs.Table.{record_at, times};
 ghost use Rattle.block_store.specs.Block.{slots_in};
-ghost use Rattle.block_store.specs.Sound.{IsNet, net_terms};
+ghost use Rattle.block_store.specs.Nets.{IsNet};
+ghost use Rattle.block_store.specs.Sound.{net_terms};
 ghost use Rattle.block_tables.specs.Indexes.{CountsStanding};
 ghost use Rattle.block_tables.specs.RuleNets.{AreTerminals, term_net};
 ghost use Rattle.block_tables.specs.Rules.{IsSoundRecord};
@@ -17,11 +18,13 @@ use block_store::{NetEntry, Tables};
 use library::Library;
 use odb_base::Kind;
 use std::alloc::{AllocError, Global};
+use tech::Tech;
 
 // What the records of tables are judged by.
 #[derive(Drop)]
 pub(crate) struct Judge<'a> {
     pub tables: &'a Tables,
+    pub tech: &'a Tech,
     pub library: &'a Library,
     pub insts: Holders<'a>,
     pub nets: Holders<'a>,
@@ -36,6 +39,7 @@ impl<'a> Judge<'a> {
     pub fn new(
         alloc: Global,
         tables: &'a Tables,
+        tech: &'a Tech,
         library: &'a Library,
     ) -> Result<Judge<'a>, AllocError>
         requires iterms { slots_in Kind.ITerm tables.now ≤ 16777215 }
@@ -43,10 +47,12 @@ impl<'a> Judge<'a> {
         requires bterms { slots_in Kind.BTerm tables.now ≤ 16777215 }
         ensures prepared { IfOk result (λ judge. IsPrepared judge) }
         ensures tables { IfOk result (λ judge. judge.tables.now ≡ tables.now) }
+        ensures tech { IfOk result (λ judge. judge.tech.now ≡ tech.now) }
         ensures library { IfOk result (λ judge. judge.library.now ≡ library.now) }
     {
         Ok(Judge {
             tables,
+            tech,
             library,
             insts: holders_of(alloc, tables.inst.slots())?,
             nets: holders_of(alloc, tables.net.slots())?,
@@ -60,10 +66,10 @@ impl<'a> Judge<'a> {
     pub fn first_unsound(&self, kind: Kind) -> Option<u32>
         requires prepared { IsPrepared self.now }
         requires few { slots_in kind self.now.tables.now ≤ 16777215 }
-        ensures none { IfNone result ((id : ℕ) → IsSoundRecord self.now.library.now self.now.tables.now kind id) }
+        ensures none { IfNone result ((id : ℕ) → IsSoundRecord self.now.tech.now self.now.library.now self.now.tables.now kind id) }
         ensures some { IfSome result (λ id. 1 ≤ id) }
-        ensures this { IfSome result (λ id. ¬ (IsSoundRecord self.now.library.now self.now.tables.now kind id)) }
-        ensures before { IfSome result (λ id. (lesser : ℕ) → lesser < id → IsSoundRecord self.now.library.now self.now.tables.now kind lesser) }
+        ensures this { IfSome result (λ id. ¬ (IsSoundRecord self.now.tech.now self.now.library.now self.now.tables.now kind id)) }
+        ensures before { IfSome result (λ id. (lesser : ℕ) → lesser < id → IsSoundRecord self.now.tech.now self.now.library.now self.now.tables.now kind lesser) }
     {
         for place in 0..self.tables.slots(kind) {
             let id = place as u32 + 1;
@@ -77,27 +83,27 @@ impl<'a> Judge<'a> {
     // Whether the record of an identifier, where it has one, is sound.
     fn is_sound(&self, kind: Kind, id: u32) -> bool
         requires { IsPrepared self.now }
-        ensures { IsTrue result ↔ IsSoundRecord self.now.library.now self.now.tables.now kind id }
+        ensures { IsTrue result ↔ IsSoundRecord self.now.tech.now self.now.library.now self.now.tables.now kind id }
     {
         match kind {
             Kind::Inst => self.is_sound_inst(id),
             Kind::ITerm => self.is_sound_iterm(id),
             Kind::Net => self.is_sound_net(id),
             Kind::BTerm => self.is_sound_bterm(id),
-            Kind::Pin
-            | Kind::Row
-            | Kind::Track
-            | Kind::Wire
-            | Kind::Blockage
-            | Kind::Region
-            | Kind::Group
-            | Kind::Prop => true,
+            Kind::Pin => is_empty(self.tables.pin.get(id)),
+            Kind::Row => is_empty(self.tables.row.get(id)),
+            Kind::Track => is_empty(self.tables.track.get(id)),
+            Kind::Wire => is_empty(self.tables.wire.get(id)),
+            Kind::Blockage => is_empty(self.tables.blockage.get(id)),
+            Kind::Region => is_empty(self.tables.region.get(id)),
+            Kind::Group => is_empty(self.tables.group.get(id)),
+            Kind::Prop => is_empty(self.tables.prop.get(id)),
         }
     }
 
     fn is_sound_inst(&self, id: u32) -> bool
         requires { IsPrepared self.now }
-        ensures { IsTrue result ↔ IsSoundRecord self.now.library.now self.now.tables.now Kind.Inst id }
+        ensures { IsTrue result ↔ IsSoundRecord self.now.tech.now self.now.library.now self.now.tables.now Kind.Inst id }
     {
         let tables = self.tables;
         let Some(inst) = tables.inst.get(id) else {
@@ -111,7 +117,7 @@ impl<'a> Judge<'a> {
 
     fn is_sound_iterm(&self, id: u32) -> bool
         requires { IsPrepared self.now }
-        ensures { IsTrue result ↔ IsSoundRecord self.now.library.now self.now.tables.now Kind.ITerm id }
+        ensures { IsTrue result ↔ IsSoundRecord self.now.tech.now self.now.library.now self.now.tables.now Kind.ITerm id }
     {
         let tables = self.tables;
         let Some(iterm) = tables.iterm.get(id) else {
@@ -124,7 +130,7 @@ impl<'a> Judge<'a> {
 
     fn is_sound_net(&self, id: u32) -> bool
         requires { IsPrepared self.now }
-        ensures { IsTrue result ↔ IsSoundRecord self.now.library.now self.now.tables.now Kind.Net id }
+        ensures { IsTrue result ↔ IsSoundRecord self.now.tech.now self.now.library.now self.now.tables.now Kind.Net id }
     {
         let tables = self.tables;
         let Some(net) = tables.net.get(id) else {
@@ -148,7 +154,7 @@ impl<'a> Judge<'a> {
 
     fn is_sound_bterm(&self, id: u32) -> bool
         requires { IsPrepared self.now }
-        ensures { IsTrue result ↔ IsSoundRecord self.now.library.now self.now.tables.now Kind.BTerm id }
+        ensures { IsTrue result ↔ IsSoundRecord self.now.tech.now self.now.library.now self.now.tables.now Kind.BTerm id }
     {
         let tables = self.tables;
         let Some(bterm) = tables.bterm.get(id) else {
@@ -168,4 +174,11 @@ impl<'a> Judge<'a> {
     {
         net == 0 || is_counted(&self.standing, number)
     }
+}
+
+// Whether a slot has no record: of a kind that is still to come there is none.
+fn is_empty<T>(slot: Option<&T>) -> bool
+    ensures { IsTrue result ↔ IfSome (option_copied slot) (λ x. ⊥) }
+{
+    slot.is_none()
 }

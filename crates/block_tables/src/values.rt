@@ -1,7 +1,10 @@
 ghost use Rattle.std.specs.Prelude.{◌≡◌, ◌↔◌, [], IsTrue, codes, length};
 ghost use Rattle.odb_base.specs.Geometry.{IsCoordinate};
 ghost use Rattle.block_records.specs.Header.{new_header};
-ghost use Rattle.block_store.specs.Sound.{IsBTerm, IsBTermDirection, IsInst, IsNet, IsPlacement, term_count, unplaced};
+ghost use Rattle.block_store.specs.BlockTerminals.{IsBTerm, IsBTermDirection};
+ghost use Rattle.block_store.specs.Instances.{IsInst, term_count};
+ghost use Rattle.block_store.specs.Nets.{IsNet};
+ghost use Rattle.block_store.specs.Placements.{IsPlacement, unplaced};
 
 use block_records::Header;
 use block_store::{BTermEntry, InstEntry, NetEntry};

@@ -7,7 +7,7 @@ use Rattle.odb_base.specs.declared.codes.orient.Orient.{Orient}
 use Rattle.odb_base.specs.declared.codes.orient.Orient.TheVariants as orient
 use Rattle.odb_base.specs.declared.codes.place_status.PlaceStatus.{PlaceStatus}
 use Rattle.odb_base.specs.declared.codes.place_status.PlaceStatus.TheVariants as status
-use Rattle.block_store.specs.Sound.{IsPlacement, unplaced}
+use Rattle.block_store.specs.Placements.{IsPlacement, unplaced}
 use Rattle.edits.specs.Plan.{fits_status, is_coordinate, is_north, is_zero}
 
 pub lawful_coordinate : (n : ℤ) → is_coordinate n ≡ true → IsCoordinate n

@@ -24,7 +24,9 @@ use Rattle.edit_words.specs.declared.step.Step.TheVariants as step
 use Rattle.block_store.specs.Block.{Block, live_in, next_in}
 use Rattle.block_store.specs.Fields.{net_in, special_in}
 use Rattle.block_store.specs.Names.{IsFree, find_in}
-use Rattle.block_store.specs.Sound.{IsBTermDirection, IsSound, term_count}
+use Rattle.block_store.specs.BlockTerminals.{IsBTermDirection}
+use Rattle.block_store.specs.Instances.{term_count}
+use Rattle.block_store.specs.Sound.{IsSound}
 use Rattle.block_store.specs.Moves.{new_bterm}
 use Rattle.block_store.proofs.Joined.{shown_by}
 use Rattle.block_store.proofs.Naming.{free_names_are_not_found}

@@ -10,7 +10,7 @@ use Rattle.named_list.proofs.Naming.{found_is_named}
 use Rattle.block_store.proofs.Joined.{none_is, shown_by, some_is}
 use Rattle.lawful_parts.specs.Lawful.{IsLibrary}
 use Rattle.tech.specs.Technology.{Technology}
-use Rattle.block_store.specs.Sound.{term_count}
+use Rattle.block_store.specs.Instances.{term_count}
 use Rattle.steps_net.specs.Can.{HaveSameTerms}
 use Rattle.edits.specs.Plan.{first_differing, first_lacking}
 use Rattle.edits.specs.Planning.{HasFewTerminals}

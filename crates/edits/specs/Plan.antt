@@ -25,7 +25,8 @@ use Rattle.edit_words.specs.declared.step.Step.{Step}
 use Rattle.edit_words.specs.declared.step.Step.TheVariants as step
 use Rattle.block_store.specs.Block.{Block, next_in}
 use Rattle.block_store.specs.Fields.{net_in, special_in}
-use Rattle.block_store.specs.Sound.{inst_terms, net_terms, term_count}
+use Rattle.block_store.specs.Instances.{term_count}
+use Rattle.block_store.specs.Sound.{inst_terms, net_terms}
 use Rattle.steps_net.specs.Can.{Can, inst_master}
 use Rattle.steps_net.specs.Do.{do_step}
 use Rattle.steps_net.specs.Room.{lacks}

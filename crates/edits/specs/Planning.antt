@@ -1,7 +1,7 @@
 -- What a call answers that plans an edit.
 use Rattle.std.specs.Prelude.{◌≡◌, ◌≢◌, ◌≤◌, List, ℕ, Some, Result, Ok, Err, Vec}
 use Rattle.library.specs.declared.master.Master.{Master}
-use Rattle.block_store.specs.Sound.{term_count}
+use Rattle.block_store.specs.Instances.{term_count}
 use Rattle.edit_words.specs.declared.refusal.Refusal.{Refusal}
 use Rattle.edit_words.specs.declared.refusal.Refusal.TheVariants as refusal
 use Rattle.edit_words.specs.declared.step.Step.{Step}

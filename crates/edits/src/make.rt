@@ -1,7 +1,7 @@
 ghost use Rattle.std.specs.Prelude.{◌≡◌, ◌∷◌, ◌≤◌, [], IfOk, OnOk, unwrap_or};
 ghost use Rattle.odb_base.specs.Name.{IsName};
 ghost use Rattle.block_store.specs.Block.{left_in};
-ghost use Rattle.block_store.specs.Sound.{term_count};
+ghost use Rattle.block_store.specs.Instances.{term_count};
 ghost use Rattle.steps_net.specs.Room.{lacking};
 ghost use Rattle.edits.specs.Checks.{nothing_lacks};
 ghost use Rattle.edits.specs.Plan.{given_net as is_given_net, joined_to, next_ids, plan_new_bterm, plan_new_inst, plan_new_net};

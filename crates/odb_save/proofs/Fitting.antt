@@ -18,7 +18,9 @@ use Rattle.block_store.specs.Database.{Database, IsSoundDatabase}
 use Rattle.lawful_parts.specs.Lawful.{IsLibrary, IsMaster, IsTechVia}
 use Rattle.tech.specs.declared.via.TechVia.{TechVia}
 use Rattle.block_store.specs.Lists.{list_in}
-use Rattle.block_store.specs.Sound.{IsSound, IsTable, bterm_net, iterm_net, net_terms, term_count}
+use Rattle.block_store.specs.Instances.{term_count}
+use Rattle.block_store.specs.Sound.{IsSound, bterm_net, iterm_net, net_terms}
+use Rattle.block_store.specs.Tables.{IsTable}
 use Rattle.block_store.proofs.Held.{distinct_times, times_held}
 use Rattle.block_store.proofs.Joined.{from_one, none_is, number_is, shown_by, terms_distinct}
 use Rattle.block_store.proofs.Shown.{live_by}

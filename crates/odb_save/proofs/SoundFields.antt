@@ -39,7 +39,11 @@ use Rattle.tech.specs.declared.layer.Layer.{Layer}
 use Rattle.tech.specs.declared.site.Site.{Site}
 use Rattle.tech.specs.declared.via.TechVia.{TechVia}
 use Rattle.block_store.specs.Lists.{bterm_number, iterm_number, list_in}
-use Rattle.block_store.specs.Sound.{AreEach, IsBTermDirection, IsPlacement, IsTable, inst_terms, iterm_place, net_terms, term_count, unplaced}
+use Rattle.block_store.specs.BlockTerminals.{IsBTermDirection}
+use Rattle.block_store.specs.Instances.{term_count}
+use Rattle.block_store.specs.Placements.{IsPlacement, unplaced}
+use Rattle.block_store.specs.Sound.{inst_terms, iterm_place, net_terms}
+use Rattle.block_store.specs.Tables.{AreEach, IsTable}
 use Rattle.block_store.proofs.Held.{times_held}
 use Rattle.block_store.proofs.Joined.{bterm_inside, from_one, iterm_inside, net_of_member, shown_by}
 use Rattle.block_store.proofs.Shown.{live_by}

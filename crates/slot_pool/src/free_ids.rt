@@ -27,14 +27,6 @@ impl<'a, T> FreeIds<'a, T> {
             of: PhantomData,
         }
     }
-
-    /// The same ids, of records of no type.
-    pub fn untyped(self) -> FreeIds<'a, ()>
-        ensures { result ≡ self }
-    {
-        let FreeIds { stack, of: _ } = self;
-        FreeIds::new(stack)
-    }
 }
 
 impl<'a, T> Drop for FreeIds<'a, T> {

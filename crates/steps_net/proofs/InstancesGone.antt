@@ -18,8 +18,10 @@ use Rattle.block_store.specs.declared.entry.InstEntry.{InstEntry}
 use Rattle.block_store.specs.Block.{Block}
 use Rattle.block_store.specs.Lists.{list_in}
 use Rattle.block_store.specs.Moves.{new_inst}
-use Rattle.block_store.specs.Sound.{ArePlaced, IsInst, IsSound, inst_terms, iterm_net, iterm_place}
-use Rattle.block_store.proofs.Joined.{iterm_outside, shown_by, some_is}
+use Rattle.block_store.specs.Instances.{IsInst}
+use Rattle.block_store.specs.Sound.{IsSound, inst_terms, iterm_net, iterm_place}
+use Rattle.block_store.specs.TermPlaces.{ArePlaced}
+use Rattle.block_store.proofs.Joined.{iterm_outside, shown_by, some_is, terms_placed}
 use Rattle.block_store.proofs.Shown.{LiveRecord, each_given, live_by, live_record, name_gone, named_given, table_given}
 use Rattle.block_store.proofs.TableLemmas.{at_given, at_given_other, back_given}
 use Rattle.steps_net.specs.Back.{Came, back, memo_of, removed, undeleted}
@@ -100,14 +102,14 @@ module _ (tech : Technology) (library : List Master) (cap : ℕ) (d : Block) (id
 
   pub sound_del_inst : IsSound tech library cap d → CanDel d kind.Inst id → IsSound tech library cap gone
   sound_del_inst sound can =
-      let givable = can_give d id sound.placed in
+      let givable = can_give d id (terms_placed tech library cap d sound) in
       insts_changed tech library cap d (given id d.inst) (terms_given (inst_terms d id) d.iterm)
-      (table_given cap id d.inst can.0 sound.inst)
-      (record { good = good_terms_given (inst_terms d id) d.iterm sound.iterm.good givable; within = rw (slots_terms_given (inst_terms d id) d.iterm) sound.iterm.within })
-      (each_given (IsInst library) id d.inst can.0 sound.insts)
-      (named_given (λ e. e.fields.name) id d.inst can.0 sound.inst_names)
-      (nets_gone d id sound.placed can.1)
-      (placed_gone d id can.0 sound.placed) sound
+      (table_given cap id d.inst can.0 (sound.kinds kind.Inst).table)
+      (record { good = good_terms_given (inst_terms d id) d.iterm (sound.kinds kind.ITerm).table.good givable; within = rw (slots_terms_given (inst_terms d id) d.iterm) (sound.kinds kind.ITerm).table.within })
+      (each_given (IsInst library) id d.inst can.0 (sound.kinds kind.Inst).each)
+      (named_given (λ e. e.fields.name) id d.inst can.0 (sound.kinds kind.Inst).named)
+      (nets_gone d id (terms_placed tech library cap d sound) can.1)
+      (placed_gone d id can.0 (terms_placed tech library cap d sound)) sound
 
   -- what the step asks
   pub can_go : IsSound tech library cap d → CanDel d kind.Inst id → CanGo id d
@@ -116,16 +118,16 @@ module _ (tech : Technology) (library : List Master) (cap : ℕ) (d : Block) (id
       record {
         live = can.0;
         alone = record {
-          apart = in_no_members id d sound.others.group;
-          bare = ap (list_in (λ (x : InstEntry). x.props)) e.is ∙ (sound.insts id e.value e.is).props;
+          apart = in_no_members id d (sound.kinds kind.Group).each;
+          bare = ap (list_in (λ (x : InstEntry). x.props)) e.is ∙ ((sound.kinds kind.Inst).each id e.value e.is).props;
         };
-        terms = can_give d id sound.placed;
+        terms = can_give d id (terms_placed tech library cap d sound);
         apart = λ k part at. iterm_outside tech library cap d sound part (can.1 k part at);
       }
 
   -- the terminals are as new ones
   are_fresh : IsSound tech library cap d → CanDel d kind.Inst id → AreFresh id 0 (inst_terms d id) d.iterm
-  are_fresh sound can j part at = fresh_by (record_at d.iterm part) id (0 + j) (terms_of d id sound.placed j part at) (can.1 j part at)
+  are_fresh sound can j part at = fresh_by (record_at d.iterm part) id (0 + j) (terms_of d id (terms_placed tech library cap d sound) j part at) (can.1 j part at)
 
   -- an instance without properties is its record
   bare_is : (e : InstEntry) → e.props ≡ [] → new_inst e.fields ≡ e
@@ -134,7 +136,7 @@ module _ (tech : Technology) (library : List Master) (cap : ℕ) (d : Block) (id
   pub back_del_inst : IsSound tech library cap d → CanDel d kind.Inst id → back (tag_of (step.Del kind.Inst id)) (memo_of (step.Del kind.Inst id) d) gone ≡ d
   back_del_inst sound can =
       let e = live_record d.inst id can.0 in
-      let same = bare_is e.value (sound.insts id e.value e.is).props in
+      let same = bare_is e.value ((sound.kinds kind.Inst).each id e.value e.is).props in
       let terms = ap (λ o. list_in (λ (x : InstEntry). x.fields.terminals) o) e.is in
       let iterms : terms_taken id 0 e.value.fields.terminals (terms_given (inst_terms d id) d.iterm) ≡ d.iterm =
       ap (λ l. terms_taken id 0 l (terms_given (inst_terms d id) d.iterm)) (sym terms) ∙ back_terms_given id 0 (inst_terms d id) d.iterm (are_fresh sound can) in
@@ -150,8 +152,8 @@ module _ (tech : Technology) (library : List Master) (cap : ℕ) (d : Block) (id
       let freed = ap length (free_terms_given (inst_terms d id) d.iterm) in
       record {
         free = λ none. cc;
-        name = name_gone (λ e. e.fields.name) id e d.inst found sound.inst_names;
-        good = good_terms_given (inst_terms d id) d.iterm sound.iterm.good (can_give d id sound.placed);
+        name = name_gone (λ e. e.fields.name) id e d.inst found (sound.kinds kind.Inst).named;
+        good = good_terms_given (inst_terms d id) d.iterm (sound.kinds kind.ITerm).table.good (can_give d id (terms_placed tech library cap d sound));
         terms = omega (arith, freed, ap length terms, length-append (inst_terms d id) d.iterm.free);
       }
 

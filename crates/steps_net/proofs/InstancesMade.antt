@@ -15,8 +15,12 @@ use Rattle.block_store.specs.Alone.{IsAlone}
 use Rattle.block_store.specs.Block.{Block, is_empty}
 use Rattle.block_store.specs.Lists.{list_in}
 use Rattle.block_store.specs.Moves.{new_inst}
-use Rattle.block_store.specs.Sound.{ArePlaced, IsInst, IsPlacement, IsSound, IsTable, inst_terms, iterm_net, iterm_place, unplaced}
-use Rattle.block_store.proofs.Joined.{iterm_outside, shown_by, some_is}
+use Rattle.block_store.specs.Instances.{IsInst}
+use Rattle.block_store.specs.Placements.{IsPlacement, unplaced}
+use Rattle.block_store.specs.Sound.{IsSound, inst_terms, iterm_net, iterm_place}
+use Rattle.block_store.specs.Tables.{IsTable}
+use Rattle.block_store.specs.TermPlaces.{ArePlaced}
+use Rattle.block_store.proofs.Joined.{iterm_outside, shown_by, some_is, terms_placed}
 use Rattle.block_store.proofs.Shown.{each_taken, named_taken, table_taken}
 use Rattle.block_store.proofs.TableLemmas.{at_next, at_taken, at_taken_other, back_taken, can_untake}
 use Rattle.steps_net.specs.Back.{Came, back, grew_of, grown_of, memo_of, terms_untaken}
@@ -114,15 +118,15 @@ module _ (tech : Technology) (library : List Master) (cap : ℕ) (d : Block) (id
       let insts_room = room_for kind.Inst 1 cap d (lacking kind.ITerm (length terminals) cap d None) room in
       let terms_room = room_for kind.ITerm (length terminals) cap d None insts_room.1 in
       insts_changed tech library cap d (taken made d.inst) (terms_taken id 0 terminals d.iterm)
-      (table_taken cap made d.inst insts_room.0 sound.inst) (iterms_made sound.iterm terms_room.0)
-      (each_taken (IsInst library) made d.inst sound.inst.good (record { name = can.named.lawful; place = unplaced_is; fitted = can.fitted; group = refl; kept = refl; props = refl }) sound.insts)
-      (named_taken (λ e. e.fields.name) made d.inst sound.inst.good can.named.free sound.inst_names)
-      (nets_made d id made terminals sound.iterm.good can.terms)
-      (placed_made d id made terminals sound.inst.good sound.iterm.good can.named.next refl can.terms sound.placed) sound
+      (table_taken cap made d.inst insts_room.0 (sound.kinds kind.Inst).table) (iterms_made (sound.kinds kind.ITerm).table terms_room.0)
+      (each_taken (IsInst library) made d.inst (sound.kinds kind.Inst).table.good (record { name = can.named.lawful; place = unplaced_is; fitted = can.fitted; group = refl; kept = refl; props = refl }) (sound.kinds kind.Inst).each)
+      (named_taken (λ e. e.fields.name) made d.inst (sound.kinds kind.Inst).table.good can.named.free (sound.kinds kind.Inst).named)
+      (nets_made d id made terminals (sound.kinds kind.ITerm).table.good can.terms)
+      (placed_made d id made terminals (sound.kinds kind.Inst).table.good (sound.kinds kind.ITerm).table.good can.named.next refl can.terms (terms_placed tech library cap d sound)) sound
 
   -- the instance has its terminals
   has_terms : IsSound tech library cap d → CanNewInst library d id name master terminals → inst_terms after id ≡ terminals
-  has_terms sound can = terms_made d id made terminals sound.inst.good can.named.next refl id refl
+  has_terms sound can = terms_made d id made terminals (sound.kinds kind.Inst).table.good can.named.next refl id refl
 
   pub back_new_inst : IsSound tech library cap d → CanNewInst library d id name master terminals
       → back (tag_of (step.NewInst id name master terminals)) (memo_of (step.NewInst id name master terminals) d) after ≡ d
@@ -131,19 +135,19 @@ module _ (tech : Technology) (library : List Master) (cap : ℕ) (d : Block) (id
       let inst_back = untaken id (is_empty d.inst.free) (taken made d.inst) in
       let terms = terms_taken id 0 terminals d.iterm in
       ap (λ l. record d { inst = inst_back; iterm = terms_untaken (length l - grown) l terms }) (has_terms sound can)
-      ∙ ap (λ u. record d { inst = inst_back; iterm = u }) (back_terms id 0 terminals d.iterm (length terminals - grown) sound.iterm.good can.terms refl)
-      ∙ ap (λ t. record d { inst = t }) (ap (λ i. untaken i (is_empty d.inst.free) (taken made d.inst)) can.named.next ∙ back_taken made d.inst sound.inst.good)
+      ∙ ap (λ u. record d { inst = inst_back; iterm = u }) (back_terms id 0 terminals d.iterm (length terminals - grown) (sound.kinds kind.ITerm).table.good can.terms refl)
+      ∙ ap (λ t. record d { inst = t }) (ap (λ i. untaken i (is_empty d.inst.free) (taken made d.inst)) can.named.next ∙ back_taken made d.inst (sound.kinds kind.Inst).table.good)
 
   -- what the way back asks
   pub can_unmake : IsSound tech library cap d → CanNewInst library d id name master terminals → CanUnmake id (is_empty d.inst.free) (length terminals - length d.iterm.free) after
   can_unmake sound can =
       let grown = length terminals - length d.iterm.free in
-      let good = sound.iterm.good in
+      let good = (sound.kinds kind.ITerm).table.good in
       record {
-        inst = rw can.named.next (can_untake made d.inst sound.inst.good);
+        inst = rw can.named.next (can_untake made d.inst (sound.kinds kind.Inst).table.good);
         alone = record {
-          apart = in_no_members id after sound.others.group;
-          bare = ap (λ i. list_in (λ (x : InstEntry). x.props) (record_at (taken made d.inst) i)) can.named.next ∙ ap (list_in (λ (x : InstEntry). x.props)) (at_taken made d.inst sound.inst.good);
+          apart = in_no_members id after (sound.kinds kind.Group).each;
+          bare = ap (λ i. list_in (λ (x : InstEntry). x.props) (record_at (taken made d.inst) i)) can.named.next ∙ ap (list_in (λ (x : InstEntry). x.props)) (at_taken made d.inst (sound.kinds kind.Inst).table.good);
         };
         terms = subst (λ l. AreUntakable (length l - grown) l after.iterm) (sym (has_terms sound can)) (untakable_terms id 0 terminals d.iterm (length terminals - grown) good can.terms refl);
         apart = λ k part at.

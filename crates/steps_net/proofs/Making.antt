@@ -19,10 +19,12 @@ use Rattle.block_store.specs.Block.{Block, free_in, is_empty, left_in, live_in, 
 use Rattle.block_store.specs.Fields.{net_in}
 use Rattle.block_store.specs.Lists.{list_in}
 use Rattle.block_store.specs.Moves.{CanUntakeIn, given_in, new_bterm, new_net, taken_in, ungiven_in, untaken_in}
-use Rattle.block_store.specs.Sound.{IsBTerm, IsNet, IsSound, bterm_net, net_terms}
-use Rattle.block_store.proofs.Changed.{bterm_changed, net_changed}
-use Rattle.block_store.proofs.Joined.{bterm_outside, net_shown, shown_by}
-use Rattle.block_store.proofs.Shown.{each_given, each_taken, live_by, live_record, name_gone, named_given, named_taken, table_given, table_taken, view_given, view_taken}
+use Rattle.block_store.specs.BlockTerminals.{IsBTerm}
+use Rattle.block_store.specs.Nets.{IsNet}
+use Rattle.block_store.specs.Sound.{IsSound, bterm_net, net_terms}
+use Rattle.block_store.proofs.Changed.{sound_gone, sound_made}
+use Rattle.block_store.proofs.Joined.{bterm_outside, bterm_seen, net_shown, shown_by, terms_seen}
+use Rattle.block_store.proofs.Shown.{live_by, live_record, name_gone}
 use Rattle.block_store.proofs.TableLemmas.{at_next, at_taken, back_given, back_taken, can_untake}
 use Rattle.steps_net.specs.Back.{record_moved, removed, undeleted}
 use Rattle.steps_net.specs.Can.{CanDel, CanName}
@@ -56,27 +58,16 @@ bterm_is e is = ap (λ l. record e { pins = l }) (sym is.pins)
 module _ (tech : Technology) (library : List Master) (cap : ℕ) (d : Block) where
   pub sound_new_net : (id : ℕ) (name : List ℕ) → IsSound tech library cap d → CanName kind.Net d id name → lacking kind.Net 1 cap d None ≡ None → IsSound tech library cap (taken_in (rec.Net (fresh_net name)) d)
   sound_new_net id name sound can room =
-      let x = new_net (fresh_net name) in
-      net_changed tech library cap d (taken x d.net)
-      (table_taken cap x d.net (room_for kind.Net 1 cap d None room).0 sound.net)
-      (each_taken IsNet x d.net sound.net.good (record { name = can.lawful; kept = refl; special_kept = refl; wires = refl; props = refl }) sound.nets)
-      (named_taken (λ e. e.fields.name) x d.net sound.net.good can.free sound.net_names)
-      (view_taken (list_in (λ e. e.terms)) x d.net sound.net.good refl) sound
+      sound_made tech library cap d kind.Net (new_net (fresh_net name)) refl (room_for kind.Net 1 cap d None room).0
+      (record { name = can.lawful; kept = refl; special_kept = refl; wires = refl; props = refl }) can.free sound
 
   pub sound_new_bterm : (id : ℕ) (name : List ℕ) → IsSound tech library cap d → CanName kind.BTerm d id name → lacking kind.BTerm 1 cap d None ≡ None → IsSound tech library cap (taken_in (rec.BTerm (fresh_bterm name)) d)
   sound_new_bterm id name sound can room =
-      let x = new_bterm (fresh_bterm name) in
-      bterm_changed tech library cap d (taken x d.bterm)
-      (table_taken cap x d.bterm (room_for kind.BTerm 1 cap d None room).0 sound.bterm)
-      (each_taken IsBTerm x d.bterm sound.bterm.good (record { name = can.lawful; direction = tt; kept = refl; pins = refl }) sound.bterms)
-      (named_taken (λ e. e.fields.name) x d.bterm sound.bterm.good can.free sound.bterm_names)
-      (view_taken (λ o. option_map_or (λ e. e.fields.net) o 0) x d.bterm sound.bterm.good refl) sound
+      sound_made tech library cap d kind.BTerm (new_bterm (fresh_bterm name)) refl (room_for kind.BTerm 1 cap d None room).0
+      (record { name = can.lawful; direction = tt; kept = refl; pins = refl }) can.free sound
 
   pub sound_del_net : (id : ℕ) → IsSound tech library cap d → CanDel d kind.Net id → IsSound tech library cap (given_in kind.Net id d)
-  sound_del_net id sound can =
-      net_changed tech library cap d (given id d.net) (table_given cap id d.net can.0 sound.net)
-      (each_given IsNet id d.net can.0 sound.nets) (named_given (λ e. e.fields.name) id d.net can.0 sound.net_names)
-      (view_given (list_in (λ e. e.terms)) id d.net can.0 can.1) sound
+  sound_del_net id sound can = sound_gone tech library cap d kind.Net id can.0 (ap (λ ids. record { terms = ids }) (terms_seen d id ∙ can.1)) sound
 
   -- a block terminal that can go is there
   pub bterm_live : (id : ℕ) → CanDel d kind.BTerm id → IsTrue (is_live d.bterm id)
@@ -84,33 +75,30 @@ module _ (tech : Technology) (library : List Master) (cap : ℕ) (d : Block) whe
 
   pub sound_del_bterm : (id : ℕ) → IsSound tech library cap d → CanDel d kind.BTerm id → IsSound tech library cap (given_in kind.BTerm id d)
   sound_del_bterm id sound can =
-      let live = bterm_live id can in
-      bterm_changed tech library cap d (given id d.bterm) (table_given cap id d.bterm live sound.bterm)
-      (each_given IsBTerm id d.bterm live sound.bterms) (named_given (λ e. e.fields.name) id d.bterm live sound.bterm_names)
-      (view_given (λ o. option_map_or (λ e. e.fields.net) o 0) id d.bterm live (net_shown (λ e. e.fields.net) (record_at d.bterm id) 0 can)) sound
+      sound_gone tech library cap d kind.BTerm id (bterm_live id can) (ap (λ net. record { net = net }) (bterm_seen d id ∙ net_shown (λ e. e.fields.net) (record_at d.bterm id) 0 can)) sound
 
   pub back_new_net : (id : ℕ) (name : List ℕ) → IsSound tech library cap d → CanName kind.Net d id name → untaken_in kind.Net id (is_empty d.net.free) (taken_in (rec.Net (fresh_net name)) d) ≡ d
   back_new_net id name sound can =
       let x = new_net (fresh_net name) in
-      ap (λ t. record d { net = t }) (ap (λ k. untaken k (is_empty d.net.free) (taken x d.net)) can.next ∙ back_taken x d.net sound.net.good)
+      ap (λ t. record d { net = t }) (ap (λ k. untaken k (is_empty d.net.free) (taken x d.net)) can.next ∙ back_taken x d.net (sound.kinds kind.Net).table.good)
 
   pub back_new_bterm : (id : ℕ) (name : List ℕ) → IsSound tech library cap d → CanName kind.BTerm d id name → untaken_in kind.BTerm id (is_empty d.bterm.free) (taken_in (rec.BTerm (fresh_bterm name)) d) ≡ d
   back_new_bterm id name sound can =
       let x = new_bterm (fresh_bterm name) in
-      ap (λ t. record d { bterm = t }) (ap (λ k. untaken k (is_empty d.bterm.free) (taken x d.bterm)) can.next ∙ back_taken x d.bterm sound.bterm.good)
+      ap (λ t. record d { bterm = t }) (ap (λ k. untaken k (is_empty d.bterm.free) (taken x d.bterm)) can.next ∙ back_taken x d.bterm (sound.kinds kind.BTerm).table.good)
 
   pub back_del_net : (id : ℕ) → IsSound tech library cap d → CanDel d kind.Net id → undeleted id (record_moved (removed (record_of kind.Net id d))) (given_in kind.Net id d) ≡ d
   back_del_net id sound can =
       let r = live_record d.net id can.0 in
       let terms : r.value.terms ≡ [] = ap (list_in (λ e. e.terms)) (sym r.is) ∙ can.1 in
-      let is : new_net r.value.fields ≡ r.value = net_is r.value (sound.nets id r.value r.is) terms in
+      let is : new_net r.value.fields ≡ r.value = net_is r.value ((sound.kinds kind.Net).each id r.value r.is) terms in
       ap (λ o. undeleted id (record_moved (removed (option_map (λ e. rec.Net e.fields) o))) (given_in kind.Net id d)) r.is
       ∙ ap (λ t. record d { net = t }) (back_given (new_net r.value.fields) id d.net (r.is ∙ ap (λ e. Some e) (sym is)))
 
   pub back_del_bterm : (id : ℕ) → IsSound tech library cap d → CanDel d kind.BTerm id → undeleted id (record_moved (removed (record_of kind.BTerm id d))) (given_in kind.BTerm id d) ≡ d
   back_del_bterm id sound can =
       let r = live_record d.bterm id (bterm_live id can) in
-      let is : new_bterm r.value.fields ≡ r.value = bterm_is r.value (sound.bterms id r.value r.is) in
+      let is : new_bterm r.value.fields ≡ r.value = bterm_is r.value ((sound.kinds kind.BTerm).each id r.value r.is) in
       ap (λ o. undeleted id (record_moved (removed (option_map (λ e. rec.BTerm e.fields) o))) (given_in kind.BTerm id d)) r.is
       ∙ ap (λ t. record d { bterm = t }) (back_given (new_bterm r.value.fields) id d.bterm (r.is ∙ ap (λ e. Some e) (sym is)))
 
@@ -118,7 +106,7 @@ module _ (tech : Technology) (library : List Master) (cap : ℕ) (d : Block) whe
   pub net_alone : (id : ℕ) → IsSound tech library cap d → CanDel d kind.Net id → IsAlone kind.Net id d
   net_alone id sound can =
       let r = live_record d.net id can.0 in
-      let is = sound.nets id r.value r.is in
+      let is = (sound.kinds kind.Net).each id r.value r.is in
       record { apart = tt; bare = (can.1, ap (list_in (λ e. e.wires)) r.is ∙ is.wires, ap (list_in (λ e. e.props)) r.is ∙ is.props) }
 
   pub bterm_alone : (id : ℕ) → IsSound tech library cap d → CanDel d kind.BTerm id → IsAlone kind.BTerm id d
@@ -126,30 +114,30 @@ module _ (tech : Technology) (library : List Master) (cap : ℕ) (d : Block) whe
       let r = live_record d.bterm id (bterm_live id can) in
       record {
         apart = bterm_outside tech library cap d sound id (net_shown (λ e. e.fields.net) (record_at d.bterm id) 0 can);
-        bare = ap (list_in (λ e. e.pins)) r.is ∙ (sound.bterms id r.value r.is).pins;
+        bare = ap (list_in (λ e. e.pins)) r.is ∙ ((sound.kinds kind.BTerm).each id r.value r.is).pins;
       }
 
   -- a new object that is taken back can be, stands in no list, and has none
   pub net_untaken : (id : ℕ) (name : List ℕ) → IsSound tech library cap d → CanName kind.Net d id name → let c = taken_in (rec.Net (fresh_net name)) d in CanUntakeIn kind.Net id (is_empty d.net.free) c × IsAlone kind.Net id c
   net_untaken id name sound can =
       let x = new_net (fresh_net name) in
-      let here : record_at (taken x d.net) id ≡ Some x = ap (record_at (taken x d.net)) can.next ∙ at_taken x d.net sound.net.good in (
-        subst (λ k. CanUntake (taken x d.net) k (is_empty d.net.free)) (sym can.next) (can_untake x d.net sound.net.good),
+      let here : record_at (taken x d.net) id ≡ Some x = ap (record_at (taken x d.net)) can.next ∙ at_taken x d.net (sound.kinds kind.Net).table.good in (
+        subst (λ k. CanUntake (taken x d.net) k (is_empty d.net.free)) (sym can.next) (can_untake x d.net (sound.kinds kind.Net).table.good),
         record { apart = tt; bare = (ap (list_in (λ e. e.terms)) here, ap (list_in (λ e. e.wires)) here, ap (list_in (λ e. e.props)) here) },
       )
 
   pub bterm_untaken : (id : ℕ) (name : List ℕ) → IsSound tech library cap d → CanName kind.BTerm d id name → let c = taken_in (rec.BTerm (fresh_bterm name)) d in CanUntakeIn kind.BTerm id (is_empty d.bterm.free) c × IsAlone kind.BTerm id c
   bterm_untaken id name sound can =
       let x = new_bterm (fresh_bterm name) in
-      let here : record_at (taken x d.bterm) id ≡ Some x = ap (record_at (taken x d.bterm)) can.next ∙ at_taken x d.bterm sound.bterm.good in
-      let none : bterm_net d id ≡ 0 = ap (bterm_net d) can.next ∙ ap (λ o. option_map_or (λ e. e.fields.net) o 0) (at_next d.bterm sound.bterm.good) in (
-        subst (λ k. CanUntake (taken x d.bterm) k (is_empty d.bterm.free)) (sym can.next) (can_untake x d.bterm sound.bterm.good),
+      let here : record_at (taken x d.bterm) id ≡ Some x = ap (record_at (taken x d.bterm)) can.next ∙ at_taken x d.bterm (sound.kinds kind.BTerm).table.good in
+      let none : bterm_net d id ≡ 0 = ap (bterm_net d) can.next ∙ ap (λ o. option_map_or (λ e. e.fields.net) o 0) (at_next d.bterm (sound.kinds kind.BTerm).table.good) in (
+        subst (λ k. CanUntake (taken x d.bterm) k (is_empty d.bterm.free)) (sym can.next) (can_untake x d.bterm (sound.kinds kind.BTerm).table.good),
         record { apart = bterm_outside tech library cap d sound id none; bare = ap (list_in (λ e. e.pins)) here },
       )
 
   -- an object that went and comes back has an identifier that is free, and a name that no object has
   pub net_ungiven : (id : ℕ) (x : NetEntry) → IsSound tech library cap d → record_at d.net id ≡ Some x → let c = given_in kind.Net id d in (free_in kind.Net c ≢ []) × IsNew (rec.Net x.fields) c
-  net_ungiven id x sound found = (λ none. never none, name_gone (λ e. e.fields.name) id x d.net found sound.net_names)
+  net_ungiven id x sound found = (λ none. never none, name_gone (λ e. e.fields.name) id x d.net found (sound.kinds kind.Net).named)
 
   pub bterm_ungiven : (id : ℕ) (x : BTermEntry) → IsSound tech library cap d → record_at d.bterm id ≡ Some x → let c = given_in kind.BTerm id d in (free_in kind.BTerm c ≢ []) × IsNew (rec.BTerm x.fields) c
-  bterm_ungiven id x sound found = (λ none. never none, name_gone (λ e. e.fields.name) id x d.bterm found sound.bterm_names)
+  bterm_ungiven id x sound found = (λ none. never none, name_gone (λ e. e.fields.name) id x d.bterm found (sound.kinds kind.BTerm).named)

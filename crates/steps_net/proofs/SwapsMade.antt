@@ -5,6 +5,7 @@ use Rattle.std.proofs.lemmas.Bool.{cases_eq}
 use Rattle.std.proofs.lemmas.Bool.Decides.{nat_tests}
 use Rattle.std.proofs.lemmas.List.{ext_get_or, length-map}
 use Rattle.slot_pool.specs.Table.{Table, is_live, record_at}
+use Rattle.odb_base.specs.declared.codes.kind.Kind.TheVariants as kind
 use Rattle.block_records.specs.declared.iterm.ITermRec.{ITermRec}
 use Rattle.tech.specs.Technology.{Technology}
 use Rattle.library.specs.Masters.{master_at}
@@ -16,8 +17,11 @@ use Rattle.edit_words.specs.declared.step.Step.TheVariants as step
 use Rattle.block_store.specs.declared.entry.InstEntry.{InstEntry}
 use Rattle.block_store.specs.Block.{Block}
 use Rattle.block_store.specs.Lists.{list_in, on_record}
-use Rattle.block_store.specs.Sound.{AreEach, ArePlaced, IsInst, IsSound, inst_terms, iterm_net, iterm_place, term_count}
-use Rattle.block_store.proofs.Joined.{none_is, shown_by, some_is}
+use Rattle.block_store.specs.Instances.{IsInst, term_count}
+use Rattle.block_store.specs.Sound.{IsSound, inst_terms, iterm_net, iterm_place}
+use Rattle.block_store.specs.Tables.{AreEach}
+use Rattle.block_store.specs.TermPlaces.{ArePlaced}
+use Rattle.block_store.proofs.Joined.{none_is, shown_by, some_is, terms_placed}
 use Rattle.block_store.proofs.Shown.{LiveRecord, each_on, live_by, live_on, live_record, named_stands, table_on, view_on}
 use Rattle.block_store.proofs.TableLemmas.{at_on, at_on_other, on_on, on_same}
 use Rattle.steps_net.specs.Back.{Came, back, master_of, memo_of, terminals_moved}
@@ -184,14 +188,14 @@ module _ (tech : Technology) (library : List Master) (cap : ℕ) (d : Block) (in
   fitted_old : IsSound tech library cap d → (m : Master) → HasMaster library d inst m → length m.terminals ≡ length (inst_terms d inst)
   fitted_old sound m has =
       let terms : inst_terms d inst ≡ has.entry.fields.terminals = ap (list_in (λ (x : InstEntry). x.fields.terminals)) has.found in
-      count_is (master_at library has.entry.fields.master) m (length has.entry.fields.terminals) has.at (sound.insts inst has.entry has.found).fitted ∙ ap length (sym terms)
+      count_is (master_at library has.entry.fields.master) m (length has.entry.fields.terminals) has.at ((sound.kinds kind.Inst).each inst has.entry has.found).fitted ∙ ap length (sym terms)
 
   -- an instance has no more terminals than there are slots for them
   terms_few : IsSound tech library cap d → length (inst_terms d inst) ≤ length d.iterm.slots
   terms_few sound =
       let ids = inst_terms d inst in
       let given = terms_given ids d.iterm in
-      let good = good_terms_given ids d.iterm sound.iterm.good (can_give d inst sound.placed) in
+      let good = good_terms_given ids d.iterm (sound.kinds kind.ITerm).table.good (can_give d inst (terms_placed tech library cap d sound)) in
       omega (arith, free_within (fresh_iterm 0 0) given good, slots_terms_given ids d.iterm, ap length (free_terms_given ids d.iterm), length-append ids d.iterm.free)
 
   -- the order of the new master
@@ -202,7 +206,7 @@ module _ (tech : Technology) (library : List Master) (cap : ℕ) (d : Block) (in
   reorders sound can =
       let has = has_master library d inst can.old can.is_old in
       is_reordering can.old can.new (inst_terms d inst) (sound.masters has.entry.fields.master can.old has.at) (sound.masters master can.new can.is_new) can.same (fitted_old sound can.old has)
-      (once_placed d inst master (inst_terms d inst) sound.placed)
+      (once_placed d inst master (inst_terms d inst) (terms_placed tech library cap d sound))
 
   -- the step, with the masters that it finds
   step_is : (can : CanSwap library d inst master) → do_step library (step.Swap inst master) d ≡ record d { inst = on_record (exchanged master (order_of can)) inst d.inst; iterm = table_indexed 0 (order_of can) d.iterm }
@@ -229,11 +233,11 @@ module _ (tech : Technology) (library : List Master) (cap : ℕ) (d : Block) (in
       let long : length can.new.terminals ≡ length order = rw length-map refl in
       rw (step_is can)
       (insts_changed tech library cap d (on_record change inst d.inst) (table_indexed 0 order d.iterm)
-      (table_on cap change inst d.inst sound.inst) (is_table_indexed cap 0 order d.iterm sound.iterm)
-      (each_on (IsInst library) change inst d.inst (λ e found is. inst_exchanged_is order can.new can.is_new long e is) sound.insts)
-      (named_stands (λ e. e.fields.name) d.inst (on_record change inst d.inst) (view_on (option_map (λ (e : InstEntry). e.fields.name)) change inst d.inst (λ e found. refl)) sound.inst_names)
+      (table_on cap change inst d.inst (sound.kinds kind.Inst).table) (is_table_indexed cap 0 order d.iterm (sound.kinds kind.ITerm).table)
+      (each_on (IsInst library) change inst d.inst (λ e found is. inst_exchanged_is order can.new can.is_new long e is) (sound.kinds kind.Inst).each)
+      (named_stands (λ e. e.fields.name) d.inst (on_record change inst d.inst) (view_on (option_map (λ (e : InstEntry). e.fields.name)) change inst d.inst (λ e found. refl)) (sound.kinds kind.Inst).named)
       (view_indexed net_of (λ index r. refl) 0 order d.iterm)
-      (placed_swapped d inst master order has.entry has.found sound.placed (reorders sound can)) sound)
+      (placed_swapped d inst master order has.entry has.found (terms_placed tech library cap d sound) (reorders sound can)) sound)
 
   -- what the step asks, of the masters that it finds
   can_swap_found : IsSound tech library cap d → (can : CanSwap library d inst master) → CanSwapFor inst can.old can.new d
@@ -248,7 +252,7 @@ module _ (tech : Technology) (library : List Master) (cap : ℕ) (d : Block) (in
           live = live_by d.inst inst has.entry has.found;
           terms = λ k id at.
               let from = is.from k id at in
-              let r = shown_by (λ (r : ITermRec). (r.inst, r.index)) (record_at d.iterm id) (inst, from.0) ((sound.placed inst from.0 id).0 from.1) in
+              let r = shown_by (λ (r : ITermRec). (r.inst, r.index)) (record_at d.iterm id) (inst, from.0) (((terms_placed tech library cap d sound) inst from.0 id).0 from.1) in
               live_by d.iterm id r.value r.is;
           few = omega (arith, fits, few);
         };
@@ -275,7 +279,7 @@ module _ (tech : Technology) (library : List Master) (cap : ℕ) (d : Block) (in
       ap (swapped inst (master_of d inst) (inst_terms d inst)) (step_is can)
       ∙ swap_is inst (master_of d inst) (inst_terms d inst) after
       ∙ ap (λ t. record d { inst = t; iterm = table_indexed 0 (inst_terms d inst) (table_indexed 0 order d.iterm) }) (back_insts d inst master order)
-      ∙ ap (λ t. record d { iterm = t }) (back_terms d inst master order sound.placed (is_inside can.old can.new (inst_terms d inst)))
+      ∙ ap (λ t. record d { iterm = t }) (back_terms d inst master order (terms_placed tech library cap d sound) (is_inside can.old can.new (inst_terms d inst)))
 
   -- what the way back asks
   pub can_exchange_back : IsSound tech library cap d → CanSwap library d inst master → CanExchange inst (inst_terms d inst) (do_step library (step.Swap inst master) d)
@@ -285,7 +289,7 @@ module _ (tech : Technology) (library : List Master) (cap : ℕ) (d : Block) (in
       rw (step_is can) (record {
         live = live_on (exchanged master order) inst d.inst inst (live_by d.inst inst has.entry has.found);
         terms = λ k id at.
-            let r = shown_by (λ (r : ITermRec). (r.inst, r.index)) (record_at d.iterm id) (inst, k) ((sound.placed inst k id).0 at) in
+            let r = shown_by (λ (r : ITermRec). (r.inst, r.index)) (record_at d.iterm id) (inst, k) (((terms_placed tech library cap d sound) inst k id).0 at) in
             view_indexed is_some (λ index r. refl) 0 order d.iterm id ∙ live_by d.iterm id r.value r.is;
         few = rw (slots_indexed 0 order d.iterm) (terms_few sound);
       })

@@ -10,7 +10,8 @@ use Rattle.block_store.specs.Block.{Block}
 use Rattle.block_store.specs.Fields.{master_in, terminals_in}
 use Rattle.block_store.specs.Lists.{list_in, on_record, on_slot}
 use Rattle.block_store.specs.Moves.{with_index, with_master, with_terminals}
-use Rattle.block_store.specs.Sound.{IsTable, inst_terms}
+use Rattle.block_store.specs.Sound.{inst_terms}
+use Rattle.block_store.specs.Tables.{IsTable}
 use Rattle.block_store.specs.Store.{Store}
 use Rattle.block_store.proofs.Joined.{net_shown, none_is, some_is}
 use Rattle.block_store.proofs.Shown.{live_on, table_on, view_on}

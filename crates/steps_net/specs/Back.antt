@@ -30,7 +30,8 @@ use Rattle.block_store.specs.Fields.{direction_in, place_in, usage_in}
 use Rattle.block_store.specs.Lists.{on_list, term_number}
 use Rattle.block_store.specs.Moves.{ungiven_in, untaken_in, with_direction, with_name, with_net, with_place, with_special, with_usage}
 use Rattle.block_store.specs.Names.{name_in}
-use Rattle.block_store.specs.Sound.{IsSound, inst_terms, net_terms, unplaced}
+use Rattle.block_store.specs.Placements.{unplaced}
+use Rattle.block_store.specs.Sound.{IsSound, inst_terms, net_terms}
 use Rattle.block_store.specs.Store.{Store}
 use Rattle.steps_net.specs.Can.{Can}
 use Rattle.steps_net.specs.Do.{do_step, swapped, terms_taken}

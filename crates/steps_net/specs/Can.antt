@@ -16,7 +16,10 @@ use Rattle.block_store.specs.Block.{Block, live_in, next_in}
 use Rattle.block_store.specs.Fields.{HasPlace, HasUsage, net_in, special_in}
 use Rattle.block_store.specs.Lists.{list_in}
 use Rattle.block_store.specs.Names.{HasNames, IsFree}
-use Rattle.block_store.specs.Sound.{IsBTermDirection, IsPlacement, inst_terms, iterm_net, net_terms, term_count}
+use Rattle.block_store.specs.BlockTerminals.{IsBTermDirection}
+use Rattle.block_store.specs.Instances.{term_count}
+use Rattle.block_store.specs.Placements.{IsPlacement}
+use Rattle.block_store.specs.Sound.{inst_terms, iterm_net, net_terms}
 
 -- these are the identifiers that a table gives next, in their order
 abbrev pub AreNext : {A : Type 0} → List ℕ → Table A → Type 0

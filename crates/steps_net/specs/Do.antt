@@ -21,7 +21,8 @@ use Rattle.block_store.specs.declared.list_of.ListOf.TheVariants as list
 use Rattle.block_store.specs.Block.{Block}
 use Rattle.block_store.specs.Lists.{on_list, term_number}
 use Rattle.block_store.specs.Moves.{given_in, new_inst, taken_in, with_direction, with_index, with_master, with_name, with_net, with_place, with_special, with_terminals, with_usage}
-use Rattle.block_store.specs.Sound.{inst_terms, unplaced}
+use Rattle.block_store.specs.Placements.{unplaced}
+use Rattle.block_store.specs.Sound.{inst_terms}
 use Rattle.steps_net.specs.Can.{inst_master}
 
 -- a new instance is unplaced

@@ -11,7 +11,7 @@ on_ok (Err e) P Q f h = h
 
 pub returns-in_ok-new-clause-ok : goal.returns-in_ok-new-clause-ok
 returns-in_ok-new-clause-ok c =
-    let P : Type 0 = (cap : ℕ) → ((k : Kind) → slots_in k c.args.tables.now ≤ cap) → (k : Kind) → IsSoundKind c.args.library.now cap c.args.tables.now k in
-    let Q : Type 0 = (cap : ℕ) → ((k : Kind) → slots_in k c.args.tables.now ≤ cap) → AreSoundParts c.args.library.now cap c.args.tables.now in
-    let sound = rw (c.in_ok-new.ensures.tables, c.in_ok-new.ensures.library) at c.check_kinds.ensures.ok in
+    let P : Type 0 = (cap : ℕ) → ((k : Kind) → slots_in k c.args.tables.now ≤ cap) → (k : Kind) → IsSoundKind c.args.tech.now c.args.library.now cap c.args.tables.now k in
+    let Q : Type 0 = (cap : ℕ) → ((k : Kind) → slots_in k c.args.tables.now ≤ cap) → AreSoundParts c.args.tech.now c.args.library.now cap c.args.tables.now in
+    let sound = rw (c.in_ok-new.ensures.tables, c.in_ok-new.ensures.tech, c.in_ok-new.ensures.library) at c.check_kinds.ensures.ok in
     on_ok c.check_kinds.result P Q (λ kinds cap few. record { header = c.in_ok-is_sound_header.ensures.0 c.if-branch.true; kinds = kinds cap few }) sound

@@ -22,7 +22,7 @@ loop-kind-preserved c = λ k near cap few.
     elim (cases_lt c.loop-kind.kind-index (kind_code k)) [
       | inl here ↦
           let same = same_kind _ k (code ∙ (let next : c.loop-kind.kind-index + 1 ≡ kind_code k = omega arith in next)) in
-          let P : Kind → Type 0 = λ kind. slots_in kind c.args.judge.now.tables.now ≤ cap → IsSoundKind c.args.judge.now.library.now cap c.args.judge.now.tables.now kind in
+          let P : Kind → Type 0 = λ kind. slots_in kind c.args.judge.now.tables.now ≤ cap → IsSoundKind c.args.judge.now.tech.now c.args.judge.now.library.now cap c.args.judge.now.tables.now kind in
           subst P same (c.in_ok-fault_in.ensures.none c.in-None.is cap) few
       | inr before ↦ c.loop-kind.invariant k before cap few
     ]

@@ -6,4 +6,4 @@ use Rattle.block_tables.specs.Rules.{IsSoundKind}
 use Rattle.block_tables.proofs.check.check_kinds.Given as goal
 
 abbrev pub invariant-loop-kind : goal.invariant-loop-kind
-invariant-loop-kind l = (k : Kind) → kind_code k ≤ l.kind-index → (cap : ℕ) → slots_in k l.judge.tables.now ≤ cap → IsSoundKind l.judge.library.now cap l.judge.tables.now k
+invariant-loop-kind l = (k : Kind) → kind_code k ≤ l.kind-index → (cap : ℕ) → slots_in k l.judge.tables.now ≤ cap → IsSoundKind l.judge.tech.now l.judge.library.now cap l.judge.tables.now k

@@ -2,10 +2,10 @@ use Rattle.block_tables.proofs.Made.{are_tables, refused, sound_of_parts}
 use Rattle.block_tables.proofs.from_tables.BlockFromTables.from_tables.Goals as goal
 
 pub with_tables-requires-clause-good : goal.with_tables-requires-clause-good
-with_tables-requires-clause-good c = are_tables c.args.library.now c.args.cap c.args.tables (c.in-Ok.ensures.ok c.args.cap c.requires.within)
+with_tables-requires-clause-good c = are_tables c.args.tech.now c.args.library.now c.args.cap c.args.tables (c.in-Ok.ensures.ok c.args.cap c.requires.within)
 
 pub returns-in-Err-clause-unsound : goal.returns-in-Err-clause-unsound
-returns-in-Err-clause-unsound c = refused c.args.library.now c.args.cap c.args.tables c.args.tech.now c.in-Err.fault (c.in-Err.ensures.err c.args.cap c.requires.within)
+returns-in-Err-clause-unsound c = refused c.args.tech.now c.args.library.now c.args.cap c.args.tables c.in-Err.fault (c.in-Err.ensures.err c.args.cap c.requires.within)
 
 pub returns-in-Ok-with_tables-clause-sound : goal.returns-in-Ok-with_tables-clause-sound
-returns-in-Ok-with_tables-clause-sound c = sound_of_parts c.args.library.now c.args.cap c.args.tables c.args.tech.now (c.in-Ok.ensures.ok c.args.cap c.requires.within)
+returns-in-Ok-with_tables-clause-sound c = sound_of_parts c.args.tech.now c.args.library.now c.args.cap c.args.tables (c.in-Ok.ensures.ok c.args.cap c.requires.within)
