@@ -17,21 +17,21 @@ use Rattle.steps_net.proofs.Making.{bterm_alone, net_alone}
 
 module _ (tech : Technology) (library : List Master) (cap : ℕ) (d : Block) (s : Step) where
   -- an instance goes
-  pub inst_goes : (k : Kind) (id : ℕ) → s ≡ step.Del k id → k ≡ kind.Inst → IsSound tech library cap d → Can library d s → CanGo id d
+  pub inst_goes : (k : Kind) (id : ℕ) → s ≡ step.Del k id → k ≡ kind.Inst → IsSound tech library cap d → Can tech library d s → CanGo id d
   inst_goes k id is of_kind sound can =
-      can_go tech library cap d id sound (subst (λ j. CanDel d j id) of_kind (subst (Can library d) is can))
+      can_go tech library cap d id sound (subst (λ j. CanDel d j id) of_kind (subst (Can tech library d) is can))
 
   alone : (k : Kind) (id : ℕ) → (k ≡ kind.Net) ⊎ (k ≡ kind.BTerm) → IsSound tech library cap d → CanDel d k id → IsAlone k id d
   alone k id (inl net) sound can = subst (λ j. IsAlone j id d) (sym net) (net_alone tech library cap d id sound (subst (λ j. CanDel d j id) net can))
   alone k id (inr bterm) sound can = subst (λ j. IsAlone j id d) (sym bterm) (bterm_alone tech library cap d id sound (subst (λ j. CanDel d j id) bterm can))
 
   -- another object goes
-  pub object_goes : (k : Kind) (id : ℕ) → s ≡ step.Del k id → (k ≡ kind.Net) ⊎ (k ≡ kind.BTerm) → IsSound tech library cap d → Can library d s → IsAlone k id d
-  object_goes k id is of_kind sound can = alone k id of_kind sound (subst (Can library d) is can)
+  pub object_goes : (k : Kind) (id : ℕ) → s ≡ step.Del k id → (k ≡ kind.Net) ⊎ (k ≡ kind.BTerm) → IsSound tech library cap d → Can tech library d s → IsAlone k id d
+  object_goes k id is of_kind sound can = alone k id of_kind sound (subst (Can tech library d) is can)
 
   -- a terminal is joined, or parted
-  pub joins : (k : Kind) (id net : ℕ) → s ≡ step.Join k id net → IsSound tech library cap d → Can library d s → IsJoinable k id net d
-  joins k id net is sound can = joinable tech library cap d k id net sound (subst (Can library d) is can)
+  pub joins : (k : Kind) (id net : ℕ) → s ≡ step.Join k id net → IsSound tech library cap d → Can tech library d s → IsJoinable k id net d
+  joins k id net is sound can = joinable tech library cap d k id net sound (subst (Can tech library d) is can)
 
-  pub parts : (k : Kind) (id net : ℕ) → s ≡ step.Part k id net → IsSound tech library cap d → Can library d s → IsJoined k id net d
-  parts k id net is sound can = joined tech library cap d k id net sound (subst (Can library d) is can)
+  pub parts : (k : Kind) (id net : ℕ) → s ≡ step.Part k id net → IsSound tech library cap d → Can tech library d s → IsJoined k id net d
+  parts k id net is sound can = joined tech library cap d k id net sound (subst (Can tech library d) is can)

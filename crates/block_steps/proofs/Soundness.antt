@@ -25,7 +25,7 @@ use Rattle.steps_net.proofs.Setting.{back_direction, back_place, back_rename, ba
 
 module _ (tech : Technology) (library : List Master) (cap : ℕ) (d : Block) where
   -- a step that may be done, and for which the cap leaves slots, leaves the block sound
-  pub sound_step : (s : Step) → IsSound tech library cap d → Can library d s → lacks s cap d ≡ None → IsSound tech library cap (do_step library s d)
+  pub sound_step : (s : Step) → IsSound tech library cap d → Can tech library d s → lacks s cap d ≡ None → IsSound tech library cap (do_step library s d)
   sound_step (step.NewInst id name master terminals) sound can room = sound_new_inst tech library cap d id name master terminals sound can room
   sound_step (step.NewNet id name) sound can room = sound_new_net tech library cap d id name sound can room
   sound_step (step.NewBTerm id name) sound can room = sound_new_bterm tech library cap d id name sound can room
@@ -43,7 +43,7 @@ module _ (tech : Technology) (library : List Master) (cap : ℕ) (d : Block) whe
   sound_step (step.Part k id net) sound can room = sound_part tech library cap d k id net sound can
 
   -- the way back of a step leads to the block before it
-  pub back_step : (s : Step) → IsSound tech library cap d → Can library d s → back (tag_of s) (memo_of s d) (do_step library s d) ≡ d
+  pub back_step : (s : Step) → IsSound tech library cap d → Can tech library d s → back (tag_of s) (memo_of s d) (do_step library s d) ≡ d
   back_step (step.NewInst id name master terminals) sound can = back_new_inst tech library cap d id name master terminals sound can
   back_step (step.NewNet id name) sound can = back_new_net tech library cap d id name sound can
   back_step (step.NewBTerm id name) sound can = back_new_bterm tech library cap d id name sound can

@@ -30,7 +30,7 @@ pub fn apply<L: Ledger>(
     moves: &mut Steps<L>,
 ) -> Memo
     requires sound { IsSound tech.now library.now block.old.cap block.old.block }
-    requires can { Can library.now block.old.block step }
+    requires can { Can tech.now library.now block.old.block step }
     requires ready { IsReady step block.old }
     ensures memo { result ≡ memo_of step block.old.block }
     ensures after { block.new.block ≡ do_step library.now step block.old.block }
@@ -63,7 +63,7 @@ fn do_one<L: Ledger>(
     moves: &mut Steps<L>,
 ) -> Memo
     requires sound { IsSound tech.now library.now block.old.cap block.old.block }
-    requires can { Can library.now block.old.block step }
+    requires can { Can tech.now library.now block.old.block step }
     requires ready { IsReady step block.old }
     ensures memo { result ≡ memo_of step block.old.block }
     ensures after { block.new.block ≡ do_step library.now step block.old.block }

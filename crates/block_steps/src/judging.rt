@@ -29,18 +29,18 @@ pub struct Misfit;
 /// Whether a step may be done. The cap of the tables is no part of it.
 pub fn can(block: &Block, tech: &Tech, library: &Library, step: &Step) -> Result<(), Misfit>
     requires { IsSound tech.now library.now block.now.cap block.now.block }
-    ensures ok { IsOk result → Can library.now block.now.block step.now }
-    ensures misfit { IsErr result → Can library.now block.now.block step.now → ⊥ }
+    ensures ok { IsOk result → Can tech.now library.now block.now.block step.now }
+    ensures misfit { IsErr result → Can tech.now library.now block.now.block step.now → ⊥ }
 {
-    if fits(block, library, step) {
+    if fits(block, tech, library, step) {
         Ok(())
     } else {
         Err(Misfit)
     }
 }
 
-fn fits(block: &Block, library: &Library, step: &Step) -> bool
-    ensures { IsTrue result ↔ Can library.now block.now.block step.now }
+fn fits(block: &Block, tech: &Tech, library: &Library, step: &Step) -> bool
+    ensures { IsTrue result ↔ Can tech.now library.now block.now.block step.now }
 {
     match step {
         Step::NewInst {

@@ -3,8 +3,8 @@
 use Rattle.std.proofs.Common.{◌≡◌, ◌≢◌, ◌≤◌, ◌∷◌, true, false, List, [], ℕ, Option, None, Some, IsTrue, is_some, refl, sym, ap, ◌∙◌}
 use Rattle.std.proofs.lemmas.Bool.{false≢true}
 use Rattle.std.specs.Option.{option_map_or}
-use Rattle.slot_pool.specs.Table.{Table, is_live, record_at, times}
-use Rattle.slot_pool.proofs.Counts.{live_within, times_cons_other}
+use Rattle.slot_pool.specs.Table.{is_live, record_at, times}
+use Rattle.slot_pool.proofs.Counts.{times_cons_other}
 use Rattle.odb_base.specs.Ids.{IsDistinct, after, holds, placed, without}
 use Rattle.odb_base.proofs.Splits.{back_in_place, eqb-refl}
 use Rattle.odb_base.specs.declared.codes.kind.Kind.TheVariants as kind
@@ -22,12 +22,8 @@ use Rattle.block_store.proofs.Changed.{kinds_on, parts_by, sound_beside}
 use Rattle.block_store.proofs.Held.{held_beside, held_linked, held_named, held_names, held_none, held_unlinked, placed_stands, times_without_other}
 use Rattle.block_store.proofs.OneTable.{header_stays, lift, on_entry_back, seen_on}
 use Rattle.block_store.proofs.Memberships.{kinds_apart, lawful_list, lawful_names, list_beside, list_get, list_keeps_name, list_set, member_beside, names_beside, names_get, names_keep_name, names_set, no_list, numbers_apart, one_after_other, place_beside_list, place_beside_name, terminals_beside_list, terminals_beside_name}
-use Rattle.block_store.proofs.Shown.{LiveRecord, live_record, view_at_on, view_other_on}
+use Rattle.block_store.proofs.Shown.{from_one, live_record, view_at_on, view_other_on}
 use Rattle.block_store.proofs.TableLemmas.{on_on, on_same}
-
--- an object that is there has an identifier from 1 on
-pub from_one : {A : Type 0} (t : Table A) (id : ℕ) → IsTrue (is_live t id) → 1 ≤ id
-from_one t id live = (live_within t.slots id live).0
 
 -- what the lists and the members show after a move
 module _ (s : Sort) (change : List ℕ → List ℕ) (object member named : ℕ) (d : Block) where

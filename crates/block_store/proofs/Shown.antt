@@ -2,9 +2,9 @@
 use Rattle.std.proofs.Common.{◌≡◌, ◌+◌, ◌-◌, ◌≤◌, ◌≢◌, true, cond, List, [], ◌∷◌, ℕ, Option, Some, None, IsTrue, is_some, length, refl, sym, ap, ◌∙◌, subst, arith, inl, inr}
 use Rattle.std.specs.Option.{option_map}
 use Rattle.std.proofs.lemmas.Bool.{cases_eq, false≢true}
-use Rattle.std.proofs.lemmas.List.{get_or_past}
+use Rattle.slot_pool.proofs.Counts.{live_within}
 use Rattle.slot_pool.specs.Table.{IsGood, Table, given, is_live, next_id, record_at, taken}
-use Rattle.block_store.specs.Block.{empty_table, is_empty}
+use Rattle.block_store.specs.Block.{is_empty}
 use Rattle.block_store.specs.Lists.{on_record}
 use Rattle.block_store.specs.Names.{name_by}
 use Rattle.block_store.specs.Tables.{AreEach, AreNamed, IsTable}
@@ -27,15 +27,13 @@ module _ {A : Type 0} where
   pub live_by : (t : Table A) (id : ℕ) (x : A) → record_at t id ≡ Some x → IsTrue (is_live t id)
   live_by t id x found = ap is_some found
 
-  -- an empty table has no objects
-  none_in_empty : (id : ℕ) → record_at (empty_table {A = A}) id ≡ None
-  none_in_empty id = elim (cases_eq id 0) [
-    | inl e ↦ ap (record_at (empty_table {A = A})) e
-    | inr e ↦ grind (arith, get_or_past {X = Option A} [] (id - 1) None)
-  ]
+  -- and has an identifier from 1 on
+  pub from_one : (t : Table A) (id : ℕ) → IsTrue (is_live t id) → 1 ≤ id
+  from_one t id live = (live_within t.slots id live).0
 
-  pub none_live : (t : Table A) (id : ℕ) → t ≡ empty_table → IsTrue (is_live t id) → ⊥
-  none_live t id empty live = false≢true (sym (ap is_some (ap (λ u. record_at u id) empty ∙ none_in_empty id)) ∙ live)
+  -- where no record is lawful, no object is there
+  pub none_live : (t : Table A) (id : ℕ) → AreEach (λ x. ⊥) t → IsTrue (is_live t id) → ⊥
+  none_live t id none live = let x = live_record t id live in none id x.value x.is
 
 module _ {A R : Type 0} (view : Option A → R) where
   view_on_by : (change : A → A) (id other : ℕ) (t : Table A) (o : Option A) → record_at t id ≡ o → ((x : A) → o ≡ Some x → view (Some (change x)) ≡ view (Some x)) → other ≡ id → view (record_at (on_record change id t) other) ≡ view (record_at t other)

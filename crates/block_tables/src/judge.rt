@@ -85,19 +85,20 @@ impl<'a> Judge<'a> {
         requires { IsPrepared self.now }
         ensures { IsTrue result ↔ IsSoundRecord self.now.tech.now self.now.library.now self.now.tables.now kind id }
     {
+        let tables = self.tables;
         match kind {
             Kind::Inst => self.is_sound_inst(id),
             Kind::ITerm => self.is_sound_iterm(id),
             Kind::Net => self.is_sound_net(id),
             Kind::BTerm => self.is_sound_bterm(id),
-            Kind::Pin => is_empty(self.tables.pin.get(id)),
-            Kind::Row => is_empty(self.tables.row.get(id)),
-            Kind::Track => is_empty(self.tables.track.get(id)),
-            Kind::Wire => is_empty(self.tables.wire.get(id)),
-            Kind::Blockage => is_empty(self.tables.blockage.get(id)),
-            Kind::Region => is_empty(self.tables.region.get(id)),
-            Kind::Group => is_empty(self.tables.group.get(id)),
-            Kind::Prop => is_empty(self.tables.prop.get(id)),
+            Kind::Pin => is_empty(tables.pin.get(id)),
+            Kind::Row => is_empty(tables.row.get(id)),
+            Kind::Track => is_empty(tables.track.get(id)),
+            Kind::Wire => is_empty(tables.wire.get(id)),
+            Kind::Blockage => is_empty(tables.blockage.get(id)),
+            Kind::Region => is_empty(tables.region.get(id)),
+            Kind::Group => is_empty(tables.group.get(id)),
+            Kind::Prop => is_empty(tables.prop.get(id)),
         }
     }
 
@@ -178,7 +179,7 @@ impl<'a> Judge<'a> {
 
 // Whether a slot has no record: of a kind that is still to come there is none.
 fn is_empty<T>(slot: Option<&T>) -> bool
-    ensures { IsTrue result ↔ IfSome (option_copied slot) (λ x. ⊥) }
+    ensures { IsTrue result ↔ IfSome (option_copied slot.entry) (λ x. ⊥) }
 {
     slot.is_none()
 }

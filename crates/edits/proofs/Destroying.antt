@@ -22,8 +22,8 @@ use Rattle.block_store.specs.Moves.{with_net}
 use Rattle.block_store.specs.declared.list_of.ListOf.TheVariants as list
 use Rattle.block_store.specs.Sound.{IsSound, bterm_net, inst_terms, iterm_net, net_terms}
 use Rattle.block_store.proofs.Held.{held_names}
-use Rattle.block_store.proofs.Joined.{from_one, some_is}
-use Rattle.block_store.proofs.Shown.{live_on, live_record, none_live, view_at_on, view_other_on}
+use Rattle.block_store.proofs.Joined.{bterms_held, iterms_held, some_is, terms_placed}
+use Rattle.block_store.proofs.Shown.{from_one, live_on, live_record, none_live, view_at_on, view_other_on}
 use Rattle.block_store.proofs.TableLemmas.{at_on}
 use Rattle.steps_net.specs.Can.{CanPart}
 use Rattle.steps_net.specs.Do.{do_step}
@@ -156,28 +156,28 @@ module _ (tech : Technology) (library : List Master) (cap : ℕ) (b : Block) (in
   }
 
   -- the instance goes at last
-  goes : (d : Block) → is_live b.inst inst ≡ true → IsParting d [] → CanAll library cap d (step.Del kind.Inst inst ∷ [])
+  goes : (d : Block) → is_live b.inst inst ≡ true → IsParting d [] → CanAll tech library cap d (step.Del kind.Inst inst ∷ [])
   goes d live p =
       let terms : inst_terms d inst ≡ inst_terms b inst = ap (λ t. list_in (λ e. e.fields.terminals) (record_at t inst)) p.insts in
       let still : is_live d.inst inst ≡ true = ap (λ t. is_live t inst) p.insts ∙ live in
       ((still, λ k id at. p.done id (held_at (inst_terms b inst) k id (ap (λ ids. slice_get ids k) (sym terms) ∙ at)) refl), refl, tt)
 
-  parts_go : (rest : List ℕ) (d : Block) → is_live b.inst inst ≡ true → IsDistinct rest → IsParting d rest → CanAll library cap d (parted_terms b rest ++ step.Del kind.Inst inst ∷ [])
+  parts_go : (rest : List ℕ) (d : Block) → is_live b.inst inst ≡ true → IsDistinct rest → IsParting d rest → CanAll tech library cap d (parted_terms b rest ++ step.Del kind.Inst inst ∷ [])
   parts_go [] d live distinct p = goes d live p
   parts_go (id ∷ rest) d live distinct p =
       let net : unwrap_or (net_in kind.ITerm id b) 0 ≡ iterm_net b id = same_net (λ r. r.net) (record_at b.iterm id) in
       let first : parted b kind.ITerm id ≡ parted_from kind.ITerm id (iterm_net b id) = ap (parted_from kind.ITerm id) net in
-      let Goes : List Step → Type 0 = λ steps. CanAll library cap d ((steps ++ parted_terms b rest) ++ step.Del kind.Inst inst ∷ []) in
+      let Goes : List Step → Type 0 = λ steps. CanAll tech library cap d ((steps ++ parted_terms b rest) ++ step.Del kind.Inst inst ∷ []) in
       elim (cases_eq (iterm_net b id) 0) [
         | inl e ↦ subst Goes (sym (first ∙ unparted kind.ITerm id (iterm_net b id) e)) (parts_go rest d live distinct.1 (passed d id rest e p))
         | inr e ↦ subst Goes (sym (first ∙ is_parted kind.ITerm id (iterm_net b id) e))
             (can_part d id rest e p, refl, parts_go rest (do_step library (step.Part kind.ITerm id (iterm_net b id)) d) live distinct.1 (next_parted d id rest distinct.0 e p))
       ]
 
-  pub inst_goes : IsSound tech library cap b → is_live b.inst inst ≡ true → CanAll library cap b (parted_terms b (inst_terms b inst) ++ step.Del kind.Inst inst ∷ [])
+  pub inst_goes : IsSound tech library cap b → is_live b.inst inst ≡ true → CanAll tech library cap b (parted_terms b (inst_terms b inst) ++ step.Del kind.Inst inst ∷ [])
   inst_goes sound live =
       parts_go (inst_terms b inst) b live
-      (distinct_by_place (inst_terms b inst) (λ j k id one other. (some_pair_parts inst inst j k (sym ((sound.placed inst j id).0 one) ∙ (sound.placed inst k id).0 other)).1))
+      (distinct_by_place (inst_terms b inst) (λ j k id one other. (some_pair_parts inst inst j k (sym ((terms_placed tech library cap b sound inst j id).0 one) ∙ (terms_placed tech library cap b sound inst k id).0 other)).1))
       (begun sound)
 
 -- the table of nets is the same whatever terminal shows another net
@@ -194,13 +194,13 @@ module _ (tech : Technology) (library : List Master) (cap : ℕ) where
 
   iterm_of : (d : Block) (net id : ℕ) → IsSound tech library cap d → 1 ≤ net → holds (net_terms d net) (iterm_number id) ≡ true → CanPart d kind.ITerm id net
   iterm_of d net id sound some inside = record {
-    joined = shows_net (λ r. r.net) (record_at d.iterm id) net (held_names (net_terms d) iterm_number (iterm_net d) net id some inside sound.iterms_held) (λ none. omega arith);
+    joined = shows_net (λ r. r.net) (record_at d.iterm id) net (held_names (net_terms d) iterm_number (iterm_net d) net id some inside (iterms_held tech library cap d sound)) (λ none. omega arith);
     some = some;
   }
 
   bterm_of : (d : Block) (net id : ℕ) → IsSound tech library cap d → 1 ≤ net → holds (net_terms d net) (bterm_number id) ≡ true → CanPart d kind.BTerm id net
   bterm_of d net id sound some inside = record {
-    joined = shows_net (λ e. e.fields.net) (record_at d.bterm id) net (held_names (net_terms d) bterm_number (bterm_net d) net id some inside sound.bterms_held) (λ none. omega arith);
+    joined = shows_net (λ e. e.fields.net) (record_at d.bterm id) net (held_names (net_terms d) bterm_number (bterm_net d) net id some inside (bterms_held tech library cap d sound)) (λ none. omega arith);
     some = some;
   }
 
@@ -239,7 +239,7 @@ module _ (tech : Technology) (library : List Master) (cap : ℕ) where
       let leave : List ℕ → List ℕ = without (term_number k id) in
       ap (λ t. is_live t net) (nets_stand k id 0 (on_list leave (list.Terms (record { 0 = net })) d)) ∙ live_on (λ e. record e { terms = leave e.terms }) net d.net net live
 
-  pub net_goes : (net : ℕ) (numbers : List ℕ) (d : Block) → IsSound tech library cap d → is_live d.net net ≡ true → net_terms d net ≡ numbers → CanAll library cap d (parted_members net numbers ++ step.Del kind.Net net ∷ [])
+  pub net_goes : (net : ℕ) (numbers : List ℕ) (d : Block) → IsSound tech library cap d → is_live d.net net ≡ true → net_terms d net ≡ numbers → CanAll tech library cap d (parted_members net numbers ++ step.Del kind.Net net ∷ [])
   net_goes net [] d sound live terms = ((live, terms), refl, tt)
   net_goes net (number ∷ rest) d sound live terms =
       let inside : holds (net_terms d net) number ≡ true = ap (λ ids. holds ids number) terms ∙ rw (eqb-refl number) refl in
@@ -252,11 +252,11 @@ module _ (tech : Technology) (library : List Master) (cap : ℕ) where
             (rest_is d (kind_of_number number) (number / 2) net number rest live m.numbered terms),
       )
 
-  pub bterm_goes : (d : Block) (id : ℕ) → is_live d.bterm id ≡ true → CanAll library cap d (parted d kind.BTerm id ++ step.Del kind.BTerm id ∷ [])
+  pub bterm_goes : (d : Block) (id : ℕ) → is_live d.bterm id ≡ true → CanAll tech library cap d (parted d kind.BTerm id ++ step.Del kind.BTerm id ∷ [])
   bterm_goes d id live =
       let net = unwrap_or (net_in kind.BTerm id d) 0 in
       let shown : net_in kind.BTerm id d ≡ Some net = its_net (λ e. e.fields.net) (record_at d.bterm id) live in
-      let Goes : List Step → Type 0 = λ steps. CanAll library cap d (steps ++ step.Del kind.BTerm id ∷ []) in
+      let Goes : List Step → Type 0 = λ steps. CanAll tech library cap d (steps ++ step.Del kind.BTerm id ∷ []) in
       elim (cases_eq net 0) [
         | inl e ↦ subst Goes (sym (unparted kind.BTerm id net e)) (shown ∙ ap Some e, refl, tt)
         | inr e ↦ subst Goes (sym (is_parted kind.BTerm id net e)) (
@@ -267,16 +267,16 @@ module _ (tech : Technology) (library : List Master) (cap : ℕ) where
       ]
 
   -- a plan of destroy
-  pub destroyed : (d : Block) (k : Kind) (id : ℕ) (steps : List Step) → IsSound tech library cap d → live_in k id d ≡ true → plan_destroy d k id ≡ Ok steps → CanAll library cap d steps
-  destroyed d kind.Inst id steps sound live h = subst (CanAll library cap d) (same_ok _ steps h) (inst_goes tech library cap d id sound live)
+  pub destroyed : (d : Block) (k : Kind) (id : ℕ) (steps : List Step) → IsSound tech library cap d → live_in k id d ≡ true → plan_destroy d k id ≡ Ok steps → CanAll tech library cap d steps
+  destroyed d kind.Inst id steps sound live h = subst (CanAll tech library cap d) (same_ok _ steps h) (inst_goes tech library cap d id sound live)
   destroyed d kind.ITerm id steps sound live h = absurd (err_ok (refusal.BadValue 1) steps h)
-  destroyed d kind.Net id steps sound live h = subst (CanAll library cap d) (same_ok _ steps h) (net_goes id (net_terms d id) d sound live refl)
-  destroyed d kind.BTerm id steps sound live h = subst (CanAll library cap d) (same_ok _ steps h) (bterm_goes d id live)
-  destroyed d kind.Pin id steps sound live h = absurd (none_live d.pin id sound.others.pin live)
-  destroyed d kind.Row id steps sound live h = absurd (none_live d.row id sound.others.row live)
-  destroyed d kind.Track id steps sound live h = absurd (none_live d.track id sound.others.track live)
-  destroyed d kind.Wire id steps sound live h = absurd (none_live d.wire id sound.others.wire live)
-  destroyed d kind.Blockage id steps sound live h = absurd (none_live d.blockage id sound.others.blockage live)
-  destroyed d kind.Region id steps sound live h = absurd (none_live d.region id sound.others.region live)
-  destroyed d kind.Group id steps sound live h = absurd (none_live d.group id sound.others.group live)
-  destroyed d kind.Prop id steps sound live h = absurd (none_live d.prop id sound.others.prop live)
+  destroyed d kind.Net id steps sound live h = subst (CanAll tech library cap d) (same_ok _ steps h) (net_goes id (net_terms d id) d sound live refl)
+  destroyed d kind.BTerm id steps sound live h = subst (CanAll tech library cap d) (same_ok _ steps h) (bterm_goes d id live)
+  destroyed d kind.Pin id steps sound live h = absurd (none_live d.pin id (sound.kinds kind.Pin).each live)
+  destroyed d kind.Row id steps sound live h = absurd (none_live d.row id (sound.kinds kind.Row).each live)
+  destroyed d kind.Track id steps sound live h = absurd (none_live d.track id (sound.kinds kind.Track).each live)
+  destroyed d kind.Wire id steps sound live h = absurd (none_live d.wire id (sound.kinds kind.Wire).each live)
+  destroyed d kind.Blockage id steps sound live h = absurd (none_live d.blockage id (sound.kinds kind.Blockage).each live)
+  destroyed d kind.Region id steps sound live h = absurd (none_live d.region id (sound.kinds kind.Region).each live)
+  destroyed d kind.Group id steps sound live h = absurd (none_live d.group id (sound.kinds kind.Group).each live)
+  destroyed d kind.Prop id steps sound live h = absurd (none_live d.prop id (sound.kinds kind.Prop).each live)

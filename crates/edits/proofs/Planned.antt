@@ -48,12 +48,12 @@ use Rattle.edits.proofs.Questions.{alike, enough, faultless, held, joined_net, n
 is_free : (k : Kind) (b : Block) (name : List ℕ) (u : Unit {0}) → unheld b k name ≡ Ok u → IsFree k name b
 is_free k b name u h = (free_names_are_not_found k b name).0 (unfound (find_in k name b) u h)
 
-module _ (library : List Master) (cap : ℕ) (b : Block) where
+module _ (tech : Technology) (library : List Master) (cap : ℕ) (b : Block) where
   -- a plan of one step
-  can_one : (s : Step) (steps : List Step) → Can library b s → lacks s cap b ≡ None → one s ≡ Ok steps → CanAll library cap b steps
-  can_one s steps can room h = subst (CanAll library cap b) (same_ok (s ∷ []) steps h) (can, room, tt)
+  can_one : (s : Step) (steps : List Step) → Can tech library b s → lacks s cap b ≡ None → one s ≡ Ok steps → CanAll tech library cap b steps
+  can_one s steps can room h = subst (CanAll tech library cap b) (same_ok (s ∷ []) steps h) (can, room, tt)
 
-  can_rename : (k : Kind) (id : ℕ) (name : List ℕ) (steps : List Step) → plan_rename b k id name ≡ Ok steps → CanAll library cap b steps
+  can_rename : (k : Kind) (id : ℕ) (name : List ℕ) (steps : List Step) → plan_rename b k id name ≡ Ok steps → CanAll tech library cap b steps
   can_rename k id name steps h =
       let there = went_on (live b k id) _ steps h in
       let named = went_on (allowed (has_names k) 1) _ steps there.rest in
@@ -68,7 +68,7 @@ module _ (library : List Master) (cap : ℕ) (b : Block) where
       })
       refl new.rest
 
-  can_place : (k : Kind) (id : ℕ) (state : PlaceStatus) (x y : ℤ) (orientation : Orient) (steps : List Step) → plan_place b k id state x y orientation ≡ Ok steps → CanAll library cap b steps
+  can_place : (k : Kind) (id : ℕ) (state : PlaceStatus) (x y : ℤ) (orientation : Orient) (steps : List Step) → plan_place b k id state x y orientation ≡ Ok steps → CanAll tech library cap b steps
   can_place k id state x y orientation steps h =
       let there = went_on (live b k id) _ steps h in
       let placed = went_on (allowed (has_place k) 1) _ steps there.rest in
@@ -88,7 +88,7 @@ module _ (library : List Master) (cap : ℕ) (b : Block) where
       ∙ ap (λ n. one (step.Place k id (record { status = state; x = along_x.value; y = n; orientation = orientation }))) y_is.1
       ∙ along_y.rest)
 
-  can_set_use : (k : Kind) (id : ℕ) (usage : Usage) (steps : List Step) → plan_set_use b k id usage ≡ Ok steps → CanAll library cap b steps
+  can_set_use : (k : Kind) (id : ℕ) (usage : Usage) (steps : List Step) → plan_set_use b k id usage ≡ Ok steps → CanAll tech library cap b steps
   can_set_use k id usage steps h =
       let there = went_on (live b k id) _ steps h in
       let used = went_on (allowed (has_usage k) 1) _ steps there.rest in
@@ -104,7 +104,7 @@ module _ (library : List Master) (cap : ℕ) (b : Block) where
   stands direction.Tristate h = false≢true h
   stands other h = tt
 
-  can_set_dir : (bterm : ℕ) (way : Direction) (steps : List Step) → plan_set_dir b bterm way ≡ Ok steps → CanAll library cap b steps
+  can_set_dir : (bterm : ℕ) (way : Direction) (steps : List Step) → plan_set_dir b bterm way ≡ Ok steps → CanAll tech library cap b steps
   can_set_dir bterm way steps h =
       let there = went_on (live b kind.BTerm bterm) _ steps h in
       let fits = went_on (allowed (is_bterm_direction way) 2) _ steps there.rest in
@@ -112,7 +112,7 @@ module _ (library : List Master) (cap : ℕ) (b : Block) where
       (held (is_live b.bterm bterm) (refusal.NotLive kind.BTerm bterm) there.value there.is, stands way (held (is_bterm_direction way) (refusal.BadValue 2) fits.value fits.is))
       refl fits.rest
 
-  can_make_special : (net : ℕ) (steps : List Step) → plan_make_special b net ≡ Ok steps → CanAll library cap b steps
+  can_make_special : (net : ℕ) (steps : List Step) → plan_make_special b net ≡ Ok steps → CanAll tech library cap b steps
   can_make_special net steps h =
       let there = went_on (live b kind.Net net) _ steps h in
       let plain = went_on (holds_or (not (unwrap_or (special_in net b) false)) refusal.Special) _ steps there.rest in
@@ -128,7 +128,7 @@ module _ (library : List Master) (cap : ℕ) (b : Block) where
   is_unjoined kind.BTerm id u there terminal h = parted_net (λ e. e.fields.net) (record_at b.bterm id) u there h
   is_unjoined other id u there terminal h = absurd (false≢true terminal)
 
-  can_join : (k : Kind) (id net : ℕ) (steps : List Step) → plan_join b k id net ≡ Ok steps → CanAll library cap b steps
+  can_join : (k : Kind) (id net : ℕ) (steps : List Step) → plan_join b k id net ≡ Ok steps → CanAll tech library cap b steps
   can_join k id net steps h =
       let there = went_on (live b k id) _ steps h in
       let net_there = went_on (live b kind.Net net) _ steps there.rest in
@@ -141,7 +141,7 @@ module _ (library : List Master) (cap : ℕ) (b : Block) where
       })
       refl free.rest
 
-  can_part : (k : Kind) (id : ℕ) (steps : List Step) → plan_part b k id ≡ Ok steps → CanAll library cap b steps
+  can_part : (k : Kind) (id : ℕ) (steps : List Step) → plan_part b k id ≡ Ok steps → CanAll tech library cap b steps
   can_part k id steps h =
       let there = went_on (live b k id) _ steps h in
       let terminal = went_on (allowed (is_terminal k) 1) _ steps there.rest in
@@ -149,7 +149,7 @@ module _ (library : List Master) (cap : ℕ) (b : Block) where
       let found = joined_net (net_in k id b) net.value net.is in
       can_one (step.Part k id net.value) steps (record { joined = found.0; some = found.1 }) refl net.rest
 
-  can_new_net : (name : List ℕ) (steps : List Step) → plan_new_net cap b name ≡ Ok steps → CanAll library cap b steps
+  can_new_net : (name : List ℕ) (steps : List Step) → plan_new_net cap b name ≡ Ok steps → CanAll tech library cap b steps
   can_new_net name steps h =
       let good = went_on (lawful name 1) _ steps h in
       let new = went_on (unheld b kind.Net name) _ steps good.rest in
@@ -166,12 +166,12 @@ module _ (library : List Master) (cap : ℕ) (b : Block) where
 
 module _ (tech : Technology) (library : List Master) (cap : ℕ) (b : Block) (sound : IsSound tech library cap b) where
   -- the new block terminal can be joined to the net
-  can_joined : (d : Block) (id : ℕ) (net : Option ℕ) (u : Unit {0}) → d.net ≡ b.net → net_in kind.BTerm id d ≡ Some 0 → given_net b net ≡ Ok u → CanAll library cap d (joined_to id net)
+  can_joined : (d : Block) (id : ℕ) (net : Option ℕ) (u : Unit {0}) → d.net ≡ b.net → net_in kind.BTerm id d ≡ Some 0 → given_net b net ≡ Ok u → CanAll tech library cap d (joined_to id net)
   can_joined d id None u nets unjoined h = tt
   can_joined d id (Some net) u nets unjoined h =
       (record { unjoined = unjoined; there = ap (λ t. is_live t net) nets ∙ held (is_live b.net net) (refusal.NotLive kind.Net net) u h }, refl, tt)
 
-  can_new_bterm : (name : List ℕ) (net : Option ℕ) (steps : List Step) → plan_new_bterm cap b name net ≡ Ok steps → CanAll library cap b steps
+  can_new_bterm : (name : List ℕ) (net : Option ℕ) (steps : List Step) → plan_new_bterm cap b name net ≡ Ok steps → CanAll tech library cap b steps
   can_new_bterm name net steps h =
       let id = next_in kind.BTerm b in
       let made = step.NewBTerm id name in
@@ -184,11 +184,11 @@ module _ (tech : Technology) (library : List Master) (cap : ℕ) (b : Block) (so
         lawful = faultless (name_fault name) 1 good.value good.is;
         free = is_free kind.BTerm b name new.value new.is;
       } in
-      let fresh = ap (option_map (λ e. e.fields.net)) (at_taken (new_bterm (fresh_bterm name)) b.bterm sound.bterm.good) in
-      subst (CanAll library cap b) (same_ok (made ∷ joined_to id net) steps room.rest)
+      let fresh = ap (option_map (λ e. e.fields.net)) (at_taken (new_bterm (fresh_bterm name)) b.bterm (sound.kinds kind.BTerm).table.good) in
+      subst (CanAll tech library cap b) (same_ok (made ∷ joined_to id net) steps room.rest)
       (can, enough (lacks made cap b) room.value room.is, can_joined (do_step library made b) id net there.value refl fresh there.is)
 
-  can_new_inst : (name master : List ℕ) (steps : List Step) → plan_new_inst library cap b name master ≡ Ok steps → CanAll library cap b steps
+  can_new_inst : (name master : List ℕ) (steps : List Step) → plan_new_inst library cap b name master ≡ Ok steps → CanAll tech library cap b steps
   can_new_inst name master steps h =
       let good = went_on (lawful name 1) _ steps h in
       let id = went_on (some_or (find_master library master) (refusal.Unknown 2)) _ steps good.rest in
@@ -199,7 +199,7 @@ module _ (tech : Technology) (library : List Master) (cap : ℕ) (b : Block) (so
       let count : term_count library id.value ≡ Some (length found.0.terminals) = ap (option_map (λ m. length m.terminals)) found.1 in
       let ids = next_ids 0 (unwrap_or (term_count library id.value) 0) b.iterm in
       let many : length ids ≡ length found.0.terminals = count_next_ids b.iterm 0 (unwrap_or (term_count library id.value) 0) ∙ ap (λ o. unwrap_or o 0) count in
-      can_one library cap b made steps
+      can_one tech library cap b made steps
       (record {
         named = record {
           next = refl;
@@ -212,44 +212,44 @@ module _ (tech : Technology) (library : List Master) (cap : ℕ) (b : Block) (so
       (enough (lacks made cap b) room.value room.is)
       room.rest
 
-  can_swap : (inst : ℕ) (master : List ℕ) (steps : List Step) → plan_swap library b inst master ≡ Ok steps → CanAll library cap b steps
+  can_swap : (inst : ℕ) (master : List ℕ) (steps : List Step) → plan_swap library b inst master ≡ Ok steps → CanAll tech library cap b steps
   can_swap inst master steps h =
       let there_is = went_on (live b kind.Inst inst) _ steps h in
       let id = went_on (some_or (find_master library master) (refusal.Unknown 2)) _ steps there_is.rest in
       let same = went_on (same_terms (differing (inst_master library b inst) (master_at library id.value))) _ steps id.rest in
       let e = live_record b.inst inst (held (is_live b.inst inst) (refusal.NotLive kind.Inst inst) there_is.value there_is.is) in
-      let old = shown_by (λ (m : Master). length m.terminals) (master_at library e.value.fields.master) (length e.value.fields.terminals) (sound.insts inst e.value e.is).fitted in
+      let old = shown_by (λ (m : Master). length m.terminals) (master_at library e.value.fields.master) (length e.value.fields.terminals) ((sound.kinds kind.Inst).each inst e.value e.is).fitted in
       let new = found_are_named (λ (m : Master). m.name) library master id.value (there (find_master library master) (refusal.Unknown 2) id.value id.is) in
       let is_old : inst_master library b inst ≡ Some old.value = ap (option_and_then (λ e. master_at library e.fields.master)) e.is ∙ old.is in
       let alike_are : first_differing old.value new.0 ≡ None =
       sym (ap (λ o. differing o (master_at library id.value)) is_old ∙ ap (differing (Some old.value)) new.1)
       ∙ alike (differing (inst_master library b inst) (master_at library id.value)) same.value same.is in
-      can_one library cap b (step.Swap inst id.value) steps
+      can_one tech library cap b (step.Swap inst id.value) steps
       (record { old = old.value; new = new.0; is_old = is_old; is_new = new.1; same = same_names old.value new.0 alike_are })
       refl same.rest
 
-  can_destroy : (k : Kind) (id : ℕ) (steps : List Step) → plan_destroyed b k id ≡ Ok steps → CanAll library cap b steps
+  can_destroy : (k : Kind) (id : ℕ) (steps : List Step) → plan_destroyed b k id ≡ Ok steps → CanAll tech library cap b steps
   can_destroy k id steps h =
       let there = went_on (live b k id) _ steps h in
       destroyed tech library cap b k id steps sound (held (live_in k id b) (refusal.NotLive k id) there.value there.is) there.rest
 
   -- the steps of a plan can be done, one after the other
-  pub planned_can : (e : Edit) (steps : List Step) → plan library cap b e ≡ Ok steps → CanAll library cap b steps
+  pub planned_can : (e : Edit) (steps : List Step) → plan tech library cap b e ≡ Ok steps → CanAll tech library cap b steps
   unfolding plan
   planned_can (edit.NewInst name master) steps h = can_new_inst name master steps h
-  planned_can (edit.NewNet name) steps h = can_new_net library cap b name steps h
+  planned_can (edit.NewNet name) steps h = can_new_net tech library cap b name steps h
   planned_can (edit.NewBTerm name net) steps h = can_new_bterm name net steps h
   planned_can (edit.Destroy k id) steps h = can_destroy k id steps h
-  planned_can (edit.Rename k id name) steps h = can_rename library cap b k id name steps h
+  planned_can (edit.Rename k id name) steps h = can_rename tech library cap b k id name steps h
   planned_can (edit.Swap inst master) steps h = can_swap inst master steps h
-  planned_can (edit.Place k id state x y orientation) steps h = can_place library cap b k id state x y orientation steps h
-  planned_can (edit.SetUse k id usage) steps h = can_set_use library cap b k id usage steps h
-  planned_can (edit.SetDir bterm way) steps h = can_set_dir library cap b bterm way steps h
-  planned_can (edit.MakeSpecial net) steps h = can_make_special library cap b net steps h
-  planned_can (edit.Join k id net) steps h = can_join library cap b k id net steps h
-  planned_can (edit.Part k id) steps h = can_part library cap b k id steps h
+  planned_can (edit.Place k id state x y orientation) steps h = can_place tech library cap b k id state x y orientation steps h
+  planned_can (edit.SetUse k id usage) steps h = can_set_use tech library cap b k id usage steps h
+  planned_can (edit.SetDir bterm way) steps h = can_set_dir tech library cap b bterm way steps h
+  planned_can (edit.MakeSpecial net) steps h = can_make_special tech library cap b net steps h
+  planned_can (edit.Join k id net) steps h = can_join tech library cap b k id net steps h
+  planned_can (edit.Part k id) steps h = can_part tech library cap b k id steps h
 
 -- what is answered in place of the plan
-pub answered_can : (tech : Technology) (library : List Master) (cap : ℕ) (b : Block) (e : Edit) → {Z : Type 0} (r : Result (Vec Step Z) Refusal) → IsSound tech library cap b → IsPlanned (plan library cap b e) r → IfOk r (λ steps. CanAll library cap b steps.items)
+pub answered_can : (tech : Technology) (library : List Master) (cap : ℕ) (b : Block) (e : Edit) → {Z : Type 0} (r : Result (Vec Step Z) Refusal) → IsSound tech library cap b → IsPlanned (plan tech library cap b e) r → IfOk r (λ steps. CanAll tech library cap b steps.items)
 answered_can tech library cap b e (Ok steps) sound h = planned_can tech library cap b sound e steps.items h
 answered_can tech library cap b e (Err why) sound h = tt

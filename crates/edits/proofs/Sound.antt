@@ -15,7 +15,7 @@ module _ (tech : Technology) (library : List Master) where
       subst (λ n. IsSound tech library n d') (sym same_cap) (subst (IsSound tech library cap) (sym same_block) sound)
 
 -- the first step of a plan can be done
-pub first_can : (library : List Master) (cap : ℕ) (b : Block) (steps : List Step) (s : Step) → 0 < length steps → s ≡ get_or steps 0 s → CanAll library cap b steps → Can library b s × (lacks s cap b ≡ None)
-first_can library cap b [] s some is can = absurd (omega arith)
-first_can library cap b (x ∷ xs) s some is can =
-    (subst (Can library b) (sym is) can.0, ap (λ s. lacks s cap b) is ∙ can.1)
+pub first_can : (tech : Technology) (library : List Master) (cap : ℕ) (b : Block) (steps : List Step) (s : Step) → 0 < length steps → s ≡ get_or steps 0 s → CanAll tech library cap b steps → Can tech library b s × (lacks s cap b ≡ None)
+first_can tech library cap b [] s some is can = absurd (omega arith)
+first_can tech library cap b (x ∷ xs) s some is can =
+    (subst (Can tech library b) (sym is) can.0, ap (λ s. lacks s cap b) is ∙ can.1)

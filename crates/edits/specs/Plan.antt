@@ -16,6 +16,7 @@ use Rattle.odb_base.specs.declared.codes.usage.Usage.{Usage}
 use Rattle.library.specs.Masters.{find_master, master_at}
 use Rattle.library.specs.Terminals.{term_index}
 use Rattle.library.specs.declared.master.Master.{Master}
+use Rattle.tech.specs.Technology.{Technology}
 use Rattle.library.specs.declared.mterm.MTerm.{MTerm}
 use Rattle.edit_words.specs.declared.edit.Edit.{Edit}
 use Rattle.edit_words.specs.declared.edit.Edit.TheVariants as edit
@@ -280,19 +281,19 @@ plan_destroyed b k id = do
   plan_destroy b k id
 
 -- the steps of an edit in the order in which they are done, or its one refusal
-unfoldable pub plan : List Master → ℕ → Block → Edit → Planned
-plan library cap b (edit.NewInst name master) = plan_new_inst library cap b name master
-plan library cap b (edit.NewNet name) = plan_new_net cap b name
-plan library cap b (edit.NewBTerm name net) = plan_new_bterm cap b name net
-plan library cap b (edit.Destroy k id) = plan_destroyed b k id
-plan library cap b (edit.Rename k id name) = plan_rename b k id name
-plan library cap b (edit.Swap inst master) = plan_swap library b inst master
-plan library cap b (edit.Place k id status x y orientation) = plan_place b k id status x y orientation
-plan library cap b (edit.SetUse k id usage) = plan_set_use b k id usage
-plan library cap b (edit.SetDir bterm way) = plan_set_dir b bterm way
-plan library cap b (edit.MakeSpecial net) = plan_make_special b net
-plan library cap b (edit.Join k id net) = plan_join b k id net
-plan library cap b (edit.Part k id) = plan_part b k id
+unfoldable pub plan : Technology → List Master → ℕ → Block → Edit → Planned
+plan tech library cap b (edit.NewInst name master) = plan_new_inst library cap b name master
+plan tech library cap b (edit.NewNet name) = plan_new_net cap b name
+plan tech library cap b (edit.NewBTerm name net) = plan_new_bterm cap b name net
+plan tech library cap b (edit.Destroy k id) = plan_destroyed b k id
+plan tech library cap b (edit.Rename k id name) = plan_rename b k id name
+plan tech library cap b (edit.Swap inst master) = plan_swap library b inst master
+plan tech library cap b (edit.Place k id status x y orientation) = plan_place b k id status x y orientation
+plan tech library cap b (edit.SetUse k id usage) = plan_set_use b k id usage
+plan tech library cap b (edit.SetDir bterm way) = plan_set_dir b bterm way
+plan tech library cap b (edit.MakeSpecial net) = plan_make_special b net
+plan tech library cap b (edit.Join k id net) = plan_join b k id net
+plan tech library cap b (edit.Part k id) = plan_part b k id
 
 -- the identifier of the object that the steps of an edit make, 0 where they make none
 abbrev pub made : List Step → ℕ
@@ -303,6 +304,6 @@ made (step.NewBTerm id name ∷ steps) = id
 made (other ∷ steps) = 0
 
 -- the steps can be done one after the other, and the tables allow their new objects
-abbrev pub CanAll : List Master → ℕ → Block → List Step → Type 0
-CanAll library cap b [] = Unit {0}
-CanAll library cap b (s ∷ steps) = Can library b s × (lacks s cap b ≡ None) × CanAll library cap (do_step library s b) steps
+abbrev pub CanAll : Technology → List Master → ℕ → Block → List Step → Type 0
+CanAll tech library cap b [] = Unit {0}
+CanAll tech library cap b (s ∷ steps) = Can tech library b s × (lacks s cap b ≡ None) × CanAll tech library cap (do_step library s b) steps

@@ -28,21 +28,22 @@ pub fn plan(
 ) -> Result<Vec<Step>, Refusal>
     requires sound { IsSound tech.now library.now block.now.cap block.now.block }
     requires library { IsLibrary tech.now library.now }
-    ensures plan { IsPlanned (plan library.now block.now.cap block.now.block edit.now) result }
-    ensures can { IfOk result (λ steps. CanAll library.now block.now.cap block.now.block steps.items) }
+    ensures plan { IsPlanned (plan tech.now library.now block.now.cap block.now.block edit.now) result }
+    ensures can { IfOk result (λ steps. CanAll tech.now library.now block.now.cap block.now.block steps.items) }
 {
-    plan_by_edit(alloc, block, library, edit)
+    plan_by_edit(alloc, block, tech, library, edit)
 }
 
 #[tactic(auto, unfolding(crate::specs::Plan::plan))]
 fn plan_by_edit(
     alloc: Global,
     block: &Block,
+    tech: &Tech,
     library: &Library,
     edit: &Edit,
 ) -> Result<Vec<Step>, Refusal>
     requires { HasFewTerminals library.now }
-    ensures { IsPlanned (plan library.now block.now.cap block.now.block edit.now) result }
+    ensures { IsPlanned (plan tech.now library.now block.now.cap block.now.block edit.now) result }
 {
     match edit {
         Edit::NewInst { name, master } => plan_inst(

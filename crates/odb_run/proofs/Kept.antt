@@ -47,7 +47,7 @@ use Rattle.odb_run.specs.Replies.{added_text}
 
 -- ---- edits
 
-sound_steps : (tech : Technology) (library : List Master) (cap : ℕ) (steps : List Step) (b : Block) → IsSound tech library cap b → CanAll library cap b steps → IsSound tech library cap (do_all library steps b)
+sound_steps : (tech : Technology) (library : List Master) (cap : ℕ) (steps : List Step) (b : Block) → IsSound tech library cap b → CanAll tech library cap b steps → IsSound tech library cap (do_all library steps b)
 sound_steps tech library cap [] b sound can = sound
 sound_steps tech library cap (s ∷ steps) b sound can = sound_steps tech library cap steps (do_step library s b) (sound_step tech library cap b s sound can.0 can.1) can.2
 
@@ -55,7 +55,7 @@ noted_copy : (cap : ℕ) (steps : List Step) (eco : Option Kept) → IfSome eco 
 noted_copy cap steps None copy = tt
 noted_copy cap steps (Some kept) copy = record { sound = copy.sound; capped = copy.capped }
 
-after_steps : (cap : ℕ) (s : State) (steps : List Step) → IsSoundState cap s → CanAll s.database.library s.database.cap s.database.block steps → IsSoundState cap (after_edit steps s)
+after_steps : (cap : ℕ) (s : State) (steps : List Step) → IsSoundState cap s → CanAll s.database.tech s.database.library s.database.cap s.database.block steps → IsSoundState cap (after_edit steps s)
 after_steps cap s steps is can = record {
   sound = record {
     tech = is.sound.tech;

@@ -80,7 +80,7 @@ edit_answer_by s (Err why) = refused s (refusal_text why)
 
 -- the plan of an edit in a state
 abbrev pub plan_in : State → Edit → Result (List Step) Refusal
-plan_in s edit = plan s.database.library s.database.cap s.database.block edit
+plan_in s edit = plan s.database.tech s.database.library s.database.cap s.database.block edit
 
 -- an edit does the steps of its plan, or is refused as its plan is
 unfoldable pub edit_answer : State → Edit → Answer

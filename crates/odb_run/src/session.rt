@@ -112,7 +112,7 @@ impl Session {
         mut steps: Vec<Step>,
         moves: &mut Steps<L>,
     ) -> Result<(), AllocError>
-        requires { CanAll self.old.database.library self.old.database.cap self.old.database.block steps.items }
+        requires { CanAll self.old.database.tech self.old.database.library self.old.database.cap self.old.database.block steps.items }
         ensures ok { OnOk result (self.new ≡ after_edit steps.items self.old) }
         ensures err { OnErr result (IsPartDone steps.items self.old self.new) }
     {
@@ -125,7 +125,7 @@ impl Session {
 
     // Does a step, and notes it with the ECO that stands. For want of memory nothing is done.
     fn do_step<L: Ledger>(&mut self, step: Step, moves: &mut Steps<L>) -> Result<(), AllocError>
-        requires can { Can self.old.database.library self.old.database.block step }
+        requires can { Can self.old.database.tech self.old.database.library self.old.database.block step }
         requires room { lacks step self.old.database.cap self.old.database.block ≡ None }
         ensures ok { OnOk result (self.new ≡ after_edit (step ∷ []) self.old) }
         ensures err { OnErr result (self.new ≡ self.old) }

@@ -34,7 +34,7 @@ pub fn do_unnoted<L: Ledger>(
     step: Step,
     moves: &mut Steps<L>,
 ) -> Result<(), AllocError>
-    requires can { Can db.old.library db.old.block step }
+    requires can { Can db.old.tech db.old.library db.old.block step }
     requires room { lacks step db.old.cap db.old.block ≡ None }
     ensures ok { OnOk result (db.new ≡ after_steps (step ∷ []) db.old) }
     ensures err { OnErr result (db.new ≡ db.old) }
@@ -55,7 +55,7 @@ pub fn do_noted<L: Ledger>(
     step: Step,
     moves: &mut Steps<L>,
 ) -> Result<(), AllocError>
-    requires can { Can db.old.library db.old.block step }
+    requires can { Can db.old.tech db.old.library db.old.block step }
     requires room { lacks step db.old.cap db.old.block ≡ None }
     requires undoable { IsUndoable db.old journal.old.entries db.old.block }
     ensures ok { OnOk result (db.new ≡ after_steps (step ∷ []) db.old) }

@@ -22,8 +22,8 @@ use Rattle.block_store.specs.Sorts.{BTermsOfNet, ITermsOfNet, Sort, list_of, own
 use Rattle.block_store.specs.Sound.{IsSound, net_terms}
 use Rattle.block_store.specs.View.{view}
 use Rattle.block_store.proofs.Joined.{bterm_enters, bterm_inside, bterm_seen, iterm_enters, iterm_inside, iterm_seen, net_of_member, net_shown, none_is, shown_by, some_is, terms_distinct, terms_seen}
-use Rattle.block_store.proofs.MovedMembers.{back_entered, back_left, from_one, left, member_inside, returned, sound_entered, sound_left}
-use Rattle.block_store.proofs.Shown.{live_by, live_on, live_record, view_at_on}
+use Rattle.block_store.proofs.MovedMembers.{back_entered, back_left, left, member_inside, returned, sound_entered, sound_left}
+use Rattle.block_store.proofs.Shown.{from_one, live_by, live_on, live_record, view_at_on}
 use Rattle.steps_net.specs.Can.{CanJoin, CanPart}
 use Rattle.steps_net.specs.Terms.{IsJoinable, IsJoined}
 

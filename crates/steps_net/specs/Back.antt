@@ -148,7 +148,7 @@ back (tag.Part k id net) m c = with_net k id net (on_list (placed (term_number k
 -- the step led from the block d, which was sound, to the block c, and moved the memo out
 pub record Came (tech : Technology) (library : List Master) (cap : ℕ) (d : Block) (s : Step) (m : Memo) (c : Block) : Type 0 where
   pub sound : IsSound tech library cap d
-  pub can : Can library d s
+  pub can : Can tech library d s
   pub memo : m ≡ memo_of s d
   pub after : c ≡ do_step library s d
 

@@ -10,6 +10,7 @@ use Rattle.odb_base.specs.declared.geometry.Placement.{Placement}
 use Rattle.library.specs.Masters.{master_at}
 use Rattle.library.specs.Terminals.{term_index}
 use Rattle.library.specs.declared.master.Master.{Master}
+use Rattle.tech.specs.Technology.{Technology}
 use Rattle.edit_words.specs.declared.step.Step.{Step}
 use Rattle.edit_words.specs.declared.step.Step.TheVariants as step
 use Rattle.block_store.specs.Block.{Block, live_in, next_in}
@@ -95,16 +96,16 @@ pub record CanPart (b : Block) (k : Kind) (id net : ℕ) : Type 0 where
   pub some : 1 ≤ net
 
 -- the step may be done
-abbrev pub Can : List Master → Block → Step → Type 0
-Can library b (step.NewInst id name master terminals) = CanNewInst library b id name master terminals
-Can library b (step.NewNet id name) = CanName kind.Net b id name
-Can library b (step.NewBTerm id name) = CanName kind.BTerm b id name
-Can library b (step.Del k id) = CanDel b k id
-Can library b (step.Rename k id name) = CanRename b k id name
-Can library b (step.Swap inst master) = CanSwap library b inst master
-Can library b (step.Place k id place) = CanPlace b k id place
-Can library b (step.SetUse k id usage) = CanSetUse b k id
-Can library b (step.SetDir bterm direction) = IsTrue (is_live b.bterm bterm) × IsBTermDirection direction
-Can library b (step.MakeSpecial net) = special_in net b ≡ Some false
-Can library b (step.Join k id net) = CanJoin b k id net
-Can library b (step.Part k id net) = CanPart b k id net
+abbrev pub Can : Technology → List Master → Block → Step → Type 0
+Can tech library b (step.NewInst id name master terminals) = CanNewInst library b id name master terminals
+Can tech library b (step.NewNet id name) = CanName kind.Net b id name
+Can tech library b (step.NewBTerm id name) = CanName kind.BTerm b id name
+Can tech library b (step.Del k id) = CanDel b k id
+Can tech library b (step.Rename k id name) = CanRename b k id name
+Can tech library b (step.Swap inst master) = CanSwap library b inst master
+Can tech library b (step.Place k id place) = CanPlace b k id place
+Can tech library b (step.SetUse k id usage) = CanSetUse b k id
+Can tech library b (step.SetDir bterm direction) = IsTrue (is_live b.bterm bterm) × IsBTermDirection direction
+Can tech library b (step.MakeSpecial net) = special_in net b ≡ Some false
+Can tech library b (step.Join k id net) = CanJoin b k id net
+Can tech library b (step.Part k id net) = CanPart b k id net

@@ -7,7 +7,7 @@ use Rattle.odb_run.proofs.session.Session.accept.Given as goal
 abbrev pub invariant-loop-step : goal.invariant-loop-step
 invariant-loop-step g l =
     record {
-      can : CanAll l.self.database.library l.self.database.cap l.self.database.block (reverse l.steps.items);
+      can : CanAll l.self.database.tech l.self.database.library l.self.database.cap l.self.database.block (reverse l.steps.items);
       under_way : IsUnderWay l.fn.steps.items (reverse l.steps.items) l.fn.self l.self;
     }
 
