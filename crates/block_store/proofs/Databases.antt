@@ -134,6 +134,21 @@ lawful_beside_masters tech library more header k x is = is
 
 lawful_beside_tech : (tech new : Technology) (library : List Master) (header : Header) (k : Kind) (x : Entry k) → HasGrown tech new → (laws k).Is (parts_by tech library header) x → (laws k).Is (parts_by new library header) x
 lawful_beside_tech tech new library header kind.Inst x grown is = is
+lawful_beside_tech tech new library header kind.Row x grown is = record {
+  fields = record {
+    name = is.fields.name;
+    site_from_one = is.fields.site_from_one;
+    site = omega (arith, is.fields.site, grown.sites);
+    x = is.fields.x;
+    y = is.fields.y;
+    nx = is.fields.nx;
+    ny = is.fields.ny;
+    sx = is.fields.sx;
+    sy = is.fields.sy;
+    repeated = is.fields.repeated;
+  };
+  props = is.props;
+}
 lawful_beside_tech tech new library header k x grown is = is
 
 -- a block stays sound beside other parts, where its entries stay lawful

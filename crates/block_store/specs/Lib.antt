@@ -20,6 +20,7 @@ pub mod Nets
 pub mod Placements
 pub mod Places
 pub mod PlainTables
+pub mod Rows
 pub mod Sorts
 pub mod Sound
 pub mod Store

@@ -5,7 +5,6 @@ use Rattle.std.specs.Option.{option_map_or}
 use Rattle.slot_pool.specs.Table.{record_at}
 use Rattle.odb_base.specs.declared.codes.kind.Kind.{Kind}
 use Rattle.odb_base.specs.declared.codes.kind.Kind.TheVariants as kind
-use Rattle.block_store.specs.declared.entry.RowEntry.{RowEntry}
 use Rattle.block_store.specs.declared.entry.RegionEntry.{RegionEntry}
 use Rattle.block_store.specs.declared.entry.GroupEntry.{GroupEntry}
 use Rattle.block_store.specs.Block.{Block}
@@ -17,17 +16,9 @@ use Rattle.block_store.specs.KindLaws.{KindLaws}
 use Rattle.block_store.specs.Kinds.{Entry, table_of}
 use Rattle.block_store.specs.Lens.{Lens}
 use Rattle.block_store.specs.Nets.{net_laws}
+use Rattle.block_store.specs.Rows.{row_laws}
 
--- the names of rows, regions and groups
-abbrev pub row_name : Lens RowEntry (List ℕ)
-row_name = record {
-  get = λ e. e.fields.name;
-  set = λ name e. record e { fields = record e.fields { name = name } };
-  set_get = λ name e. refl;
-  get_set = λ e. refl;
-  set_set = λ new old e. refl;
-}
-
+-- the names of regions and groups
 abbrev pub region_name : Lens RegionEntry (List ℕ)
 region_name = record {
   get = λ e. e.fields.name;
@@ -52,7 +43,7 @@ laws kind.ITerm = iterm_laws
 laws kind.Net = net_laws
 laws kind.BTerm = bterm_laws
 laws kind.Pin = coming_laws None
-laws kind.Row = coming_laws (Some row_name)
+laws kind.Row = row_laws
 laws kind.Track = coming_laws None
 laws kind.Wire = coming_laws None
 laws kind.Blockage = coming_laws None

@@ -1,5 +1,9 @@
+use Rattle.odb_base.specs.declared.codes.kind.Kind.TheVariants as kind
 use Rattle.block_steps.proofs.Asked.{inst_goes, joins, object_goes, parts}
 use Rattle.block_steps.proofs.doing.do_one.Goals as goal
+
+pub new_inst-requires-clause-good : goal.new_inst-requires-clause-good
+new_inst-requires-clause-good g c = (c.requires.sound.kinds kind.ITerm).table.good
 
 pub del_inst-requires : goal.del_inst-requires
 del_inst-requires g c = inst_goes _ _ _ _ _ _ _ c.in-Del.is c.in-Inst.is c.requires.sound c.requires.can
