@@ -18,7 +18,7 @@ use Rattle.script_words.specs.declared.verb.Verb.TheVariants as verb
 use Rattle.tech.specs.declared.layer.Layer.{Layer}
 use Rattle.tech.specs.declared.site.Site.{Site}
 use Rattle.script_words.specs.Answers.{IsAnswer}
-use Rattle.script_words.specs.Forms.{◌>>=◌, Taken, Words, direction_at, end_at, file_at, id_at, kind_at, layer_type_at, name_at, named_kind_at, number_at, orient_at, site_class_at, size_at, status_at, usage_at, word_at}
+use Rattle.script_words.specs.Forms.{◌>>=◌, Taken, Words, direction_at, end_at, file_at, id_at, kind_at, layer_type_at, name_at, named_kind_at, number_at, object_at, orient_at, site_class_at, size_at, status_at, usage_at, word_at}
 use Rattle.script_words.specs.Verb.{verb_named}
 use Rattle.script_words.specs.Words.{words_of}
 
@@ -65,16 +65,14 @@ new_bterm words = do
 -- `destroy KIND ID`
 unfoldable pub destroy : Line
 destroy words = do
-  (kind, words) ← kind_at words
-  (id, words) ← id_at words
+  ((kind, id), words) ← object_at words
   done ← end_at words
   Ok (command.Edit (edit.Destroy kind id))
 
 -- `rename KIND ID NAME`
 unfoldable pub rename : Line
 rename words = do
-  (kind, words) ← kind_at words
-  (id, words) ← id_at words
+  ((kind, id), words) ← object_at words
   (name, words) ← word_at words
   done ← end_at words
   Ok (command.Edit (edit.Rename kind id name))
@@ -90,8 +88,7 @@ swap words = do
 -- `place KIND ID STATUS X Y ORIENT`
 unfoldable pub place : Line
 place words = do
-  (kind, words) ← kind_at words
-  (id, words) ← id_at words
+  ((kind, id), words) ← object_at words
   (status, words) ← status_at words
   (x, words) ← number_at words
   (y, words) ← number_at words
@@ -102,8 +99,7 @@ place words = do
 -- `set_use KIND ID USE|-`
 unfoldable pub set_use : Line
 set_use words = do
-  (kind, words) ← kind_at words
-  (id, words) ← id_at words
+  ((kind, id), words) ← object_at words
   (usage, words) ← usage_at words
   done ← end_at words
   Ok (command.Edit (edit.SetUse kind id usage))
@@ -126,8 +122,7 @@ make_special words = do
 -- `join KIND ID NET`
 unfoldable pub join : Line
 join words = do
-  (kind, words) ← kind_at words
-  (id, words) ← id_at words
+  ((kind, id), words) ← object_at words
   (net, words) ← id_at words
   done ← end_at words
   Ok (command.Edit (edit.Join kind id net))
@@ -135,8 +130,7 @@ join words = do
 -- `part KIND ID`
 unfoldable pub part : Line
 part words = do
-  (kind, words) ← kind_at words
-  (id, words) ← id_at words
+  ((kind, id), words) ← object_at words
   done ← end_at words
   Ok (command.Edit (edit.Part kind id))
 
@@ -267,11 +261,17 @@ terms words = do
 
 -- The other lines.
 
--- a command on the file of the name that ends the line
-unfoldable pub on_file : (List ℕ → Command) → Line
-on_file c words = do
+-- the name of a file that ends the line
+unfoldable pub last_file : Words → Result (List ℕ) LineFault
+last_file words = do
   (file, words) ← file_at words
   done ← end_at words
+  Ok file
+
+-- a command on a file, as `load FILE`
+unfoldable pub on_file : (List ℕ → Command) → Line
+on_file c words = do
+  file ← last_file words
   Ok (c file)
 
 -- a command without arguments, as `counts`

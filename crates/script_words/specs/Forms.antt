@@ -1,5 +1,5 @@
 -- The forms of words in script lines, and the words of a line taken one after another.
-use Rattle.std.specs.Prelude.{◌==◌, ◌&&◌, ◌||◌, ◌*◌, ◌+◌, ◌-◌, Bool, true, false, List, [], ◌∷◌, ℕ, ℤ, pos, negsuc, neg_ℤ, int_le, Option, None, Some, Result, Ok, Err, if◌then◌else◌, nat_le, not, option_and_then, codes, drop, fold, length, slice_index}
+use Rattle.std.specs.Prelude.{◌==◌, ◌&&◌, ◌||◌, Bool, false, List, [], ◌∷◌, ℕ, ℤ, pos, negsuc, neg_ℤ, int_le, Option, None, Some, Result, Ok, Err, if◌then◌else◌, nat_le, not, option_and_then, codes, drop, length, slice_index}
 use Rattle.std.specs.Char.{is_ascii_alphanumeric}
 use Rattle.std.specs.List.{list_all, find}
 use Rattle.std.specs.Option.{option_map}
@@ -164,6 +164,13 @@ number_at words = form_at number_named words
 -- an identifier
 abbrev pub id_at : Words → Taken ℕ
 id_at words = form_at id_named words
+
+-- the kind and the identifier of an object
+unfoldable pub object_at : Words → Taken (Kind × ℕ)
+object_at words = do
+  (kind, words) ← kind_at words
+  (id, words) ← id_at words
+  Ok ((kind, id), words)
 
 -- a number that 32 bits with a sign hold
 abbrev pub size_at : Words → Taken ℤ

@@ -1,9 +1,8 @@
 -- The words of commands.
 use Rattle.std.specs.Prelude.{List, [], ◌∷◌, ℕ, Option, codes}
-use Rattle.std.specs.List.{find}
-use Rattle.std.specs.Str.{bytes_eq}
 use Rattle.script_words.specs.declared.verb.Verb.{Verb}
 use Rattle.script_words.specs.declared.verb.Verb.TheVariants as verb
+use Rattle.script_words.specs.Forms.{value_named}
 
 -- every verb
 abbrev pub verbs : List Verb
@@ -44,4 +43,4 @@ verb_word verb.EcoUndo = codes "eco_undo"
 
 -- the verb of a word
 unfoldable pub verb_named : List ℕ → Option Verb
-verb_named word = find (λ verb. bytes_eq (verb_word verb) word) verbs
+verb_named word = value_named verbs verb_word word

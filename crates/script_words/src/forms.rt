@@ -1,6 +1,6 @@
 ghost use Rattle.std.specs.Prelude.{◌≡◌};
 ghost use Rattle.script_words.specs.Answers.{IsCopied, IsTaken, IsWordTaken};
-ghost use Rattle.script_words.specs.Forms.{end_at, file_at, fitting, id_at, identifier, name_at, named_kind_at, number_at, size_at, value_at, word_at};
+ghost use Rattle.script_words.specs.Forms.{end_at, file_at, fitting, id_at, identifier, name_at, named_kind_at, number_at, object_at, size_at, value_at, word_at};
 ghost use Rattle.script_words.specs.Words.{words_of};
 
 use crate::fault::LineFault;
@@ -101,6 +101,16 @@ fn identifier(number: i64) -> Option<u32>
     } else {
         None
     }
+}
+
+/// The object that the next two words name, a kind and an identifier, and what stands behind them.
+#[tactic(auto, unfolding(crate::specs::Forms::object_at))]
+pub fn object(line: &[u8]) -> Result<((Kind, u32), &[u8]), LineFault>
+    ensures { IsTaken (object_at (words_of line.now)) result }
+{
+    let (kind, rest) = worded(line)?;
+    let (id, rest) = id(rest)?;
+    Ok(((kind, id), rest))
 }
 
 /// The number of 32 bits with its sign that the next word is, and what stands behind it.

@@ -10,7 +10,9 @@ use crate::edit_lines::{
 };
 use crate::fault::LineFault;
 use crate::master_line::master;
-use crate::query_lines::{bare, find, free, list, load, read_lef, save, terms};
+use crate::query_lines::{
+    counts, eco_begin, eco_undo, find, free, list, load, read_lef, save, terms,
+};
 use crate::tech_lines::{layer, site, units};
 use crate::verb::Verb;
 use crate::words::next_word;
@@ -72,11 +74,11 @@ fn line_of(alloc: Global, verb: Verb, words: &[u8]) -> Result<Command, LineFault
         Verb::Find => find(alloc, words),
         Verb::List => list(words),
         Verb::Free => free(words),
-        Verb::Counts => bare(Command::Counts, words),
+        Verb::Counts => counts(words),
         Verb::Terms => terms(words),
         Verb::Save => save(alloc, words),
         Verb::Load => load(alloc, words),
-        Verb::EcoBegin => bare(Command::EcoBegin, words),
-        Verb::EcoUndo => bare(Command::EcoUndo, words),
+        Verb::EcoBegin => eco_begin(words),
+        Verb::EcoUndo => eco_undo(words),
     }
 }

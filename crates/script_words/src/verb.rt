@@ -66,7 +66,7 @@ const VERBS: [Verb; 26] = [
 
 impl Verb {
     /// The verb of a word, or nothing where it is the word of none.
-    #[tactic(auto, unfolding(crate::specs::Verb::verb_named))]
+    #[tactic(auto, unfolding(crate::specs::Verb::verb_named, crate::specs::Forms::value_named))]
     pub fn of(word: &[u8]) -> Option<Verb>
         ensures { result ≡ verb_named word.now }
     {
