@@ -93,7 +93,7 @@ fn codes_and_words(rt: HostRuntime) {
 }
 
 // A value has this code and this word, and they have it.
-fn is_coded<C: Worded + PartialEq>(rt: &impl Abort, value: C, code: u8, word: &[u8]) {
+fn is_coded<C: Coded + Worded + PartialEq>(rt: &impl Abort, value: C, code: u8, word: &[u8]) {
     assert!(rt; value.code() == code && value.word() == word);
     assert!(rt; C::from_code(code) == Some(value));
     assert!(rt; C::from_word(word) == Some(value));

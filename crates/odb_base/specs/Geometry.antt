@@ -1,5 +1,5 @@
 -- Coordinates and turned sizes.
-use Rattle.std.specs.Prelude.{ℤ, pos, ◌≤ℤ◌, neg_ℤ}
+use Rattle.std.specs.Prelude.{Bool, ℤ, pos, negsuc, ◌≤ℤ◌, nat_le, nat_lt, neg_ℤ}
 use Rattle.odb_base.specs.declared.codes.orient.Orient.{Orient}
 use Rattle.odb_base.specs.declared.codes.orient.Orient.TheVariants as orient
 use Rattle.odb_base.specs.declared.geometry.Rect.{Rect}
@@ -18,6 +18,11 @@ oriented orient.FE w h = (h, w)
 -- the number is within the limit of coordinates
 abbrev pub IsCoordinate : ℤ → Type 0
 IsCoordinate n = (neg_ℤ (pos 2000000000) ≤ℤ n) × (n ≤ℤ pos 2000000000)
+
+-- the same as a test
+abbrev pub is_coordinate : ℤ → Bool
+is_coordinate (pos n) = nat_le n 2000000000
+is_coordinate (negsuc n) = nat_lt n 2000000000
 
 -- a rectangle has lawful coordinates, and goes from its lower left corner to its upper right one
 pub record IsRect (r : Rect) : Type 0 where

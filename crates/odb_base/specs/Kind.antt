@@ -1,5 +1,5 @@
--- Kinds of objects: their codes and words.
-use Rattle.std.specs.Prelude.{List, [], ◌∷◌, ℕ, codes}
+-- Kinds of objects: their codes and words, and what their objects have.
+use Rattle.std.specs.Prelude.{Bool, true, false, List, [], ◌∷◌, ℕ, codes}
 use Rattle.odb_base.specs.declared.codes.kind.Kind.{Kind}
 use Rattle.odb_base.specs.declared.codes.kind.Kind.TheVariants as kind
 
@@ -36,3 +36,40 @@ kind_word kind.Blockage = codes "blockage"
 kind_word kind.Region = codes "region"
 kind_word kind.Group = codes "group"
 kind_word kind.Prop = codes "prop"
+
+-- objects of the kind have names
+abbrev pub has_names : Kind → Bool
+has_names kind.Inst = true
+has_names kind.Net = true
+has_names kind.BTerm = true
+has_names kind.Row = true
+has_names kind.Region = true
+has_names kind.Group = true
+has_names other = false
+
+-- objects of the kind have a placement
+abbrev pub has_place : Kind → Bool
+has_place kind.Inst = true
+has_place kind.Pin = true
+has_place other = false
+
+-- objects of the kind have a use
+abbrev pub has_usage : Kind → Bool
+has_usage kind.Net = true
+has_usage kind.BTerm = true
+has_usage other = false
+
+-- objects of the kind are terminals, of instances or of the block
+abbrev pub is_terminal : Kind → Bool
+is_terminal kind.ITerm = true
+is_terminal kind.BTerm = true
+is_terminal other = false
+
+-- objects of the kind have properties
+abbrev pub has_props : Kind → Bool
+has_props kind.Inst = true
+has_props kind.Net = true
+has_props kind.Row = true
+has_props kind.Region = true
+has_props kind.Group = true
+has_props other = false

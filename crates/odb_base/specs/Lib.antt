@@ -1,3 +1,4 @@
+pub mod Digits
 pub mod Direction
 pub mod EcoState
 pub mod Geometry

@@ -45,24 +45,32 @@ pub trait Coded: Copy + 'static {
     }
 }
 
-/// A value of a set whose values have words in scripts, LEF and DEF.
-pub trait Worded: Coded {
+/// A value of a set whose values have words in scripts, replies, LEF and DEF.
+pub trait Worded: Copy + 'static {
     ghost word_of: { Self → List ℕ };
 
     /// The word of the value.
     fn word(self) -> &'static [u8]
         ensures { result.now ≡ word_of self };
 
-    /// The value of a word, or nothing where it is the word of none.
-    final fn from_word(word: &[u8]) -> Option<Self>
-        ensures { result ≡ find (λ value. bytes_eq (word_of value) word.now) Self.every }
+    /// The first of some values whose word this is, or nothing where it is the word of none of them.
+    final fn named_among(values: &[Self], word: &[u8]) -> Option<Self>
+        ensures { result ≡ find (λ value. bytes_eq (word_of value) word.now) values.now }
     {
-        let values = Self::every();
         for value in values {
             if value.word() == word {
                 return Some(*value);
             }
         }
         None
+    }
+
+    /// The value of a word, or nothing where it is the word of none.
+    final fn from_word(word: &[u8]) -> Option<Self>
+    where
+        Self: Coded,
+        ensures { result ≡ find (λ value. bytes_eq (word_of value) word.now) Self.every }
+    {
+        Self::named_among(Self::every(), word)
     }
 }

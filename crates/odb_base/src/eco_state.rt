@@ -1,7 +1,8 @@
-ghost use Rattle.std.specs.Prelude.{◌≡◌};
 ghost use Rattle.odb_base.specs.EcoState.{eco_state_word};
 
-/// Where a session stands between two engineering change orders, or within one.
+use crate::codes::Worded;
+
+/// Where a session stands between two engineering change orders, or within one. The words are those of replies.
 #[derive(Clone, Copy, Debug, PartialEq, Eq)]
 pub enum EcoState {
     /// No ECO stands.
@@ -12,12 +13,11 @@ pub enum EcoState {
     Ended,
 }
 
-impl EcoState {
-    /// The word that stands for the state in replies.
+impl Worded for EcoState {
+    ghost word_of = { eco_state_word };
+
     #[tactic(auto, unfolding(crate::specs::EcoState::eco_state_word))]
-    pub fn word(self) -> &'static [u8]
-        ensures { result.now ≡ eco_state_word self }
-    {
+    fn word(self) -> &'static [u8] {
         match self {
             EcoState::None => b"None",
             EcoState::Open => b"Open",

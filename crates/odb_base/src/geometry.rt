@@ -1,5 +1,5 @@
-ghost use Rattle.std.specs.Prelude.{◌≡◌};
-ghost use Rattle.odb_base.specs.Geometry.{oriented};
+ghost use Rattle.std.specs.Prelude.{◌≡◌, ◌↔◌, IsTrue};
+ghost use Rattle.odb_base.specs.Geometry.{IsCoordinate, is_coordinate, oriented};
 
 use crate::codes::orient::Orient;
 use crate::codes::place_status::PlaceStatus;
@@ -7,6 +7,14 @@ use crate::id::LayerId;
 
 /// The greatest coordinate, distance, width or step, in database units; the least is its negative.
 pub const COORDINATE_LIMIT: u32 = 2_000_000_000;
+
+/// Whether the number is within the limit of coordinates, distances, widths and steps.
+pub fn is_coordinate(n: i64) -> bool
+    ensures test { result ≡ is_coordinate n }
+    ensures lawful { IsTrue result ↔ IsCoordinate n }
+{
+    n.unsigned_abs() <= COORDINATE_LIMIT as u64
+}
 
 /// A point, in database units.
 #[derive(Clone, Copy, Debug, PartialEq, Eq)]

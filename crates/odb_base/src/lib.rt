@@ -1,14 +1,15 @@
 //! Words that every other crate of the database speaks: names, texts, lists, identifiers, the sets of codes
-//! (kinds of objects, orientations, statuses, uses and so on), points and rectangles, ECO states, and a counter
-//! of steps that costs nothing at run time.
+//! (kinds of objects, orientations, statuses, uses and so on), points and rectangles, ECO states, the digits of
+//! numbers, and a counter of steps that costs nothing at run time.
 //!
 //! A [`Name`], a [`Text`] and a [`WireCode`] are seen by contracts as the list of their bytes, a [`List`] as
 //! the list of its items. A name is lawful by its type; [`name_fault`] says why other bytes are none. Each set
-//! of codes is an enum that is [`Coded`], and [`Worded`] where its values have words. Nothing here depends on a
+//! of codes is an enum that is [`Coded`], and an enum whose values have words is [`Worded`]. Nothing here depends on a
 //! database.
 #![tactic(auto)]
 
 pub mod codes;
+pub mod digits;
 pub mod eco_state;
 pub mod geometry;
 pub mod id;
@@ -34,8 +35,9 @@ pub use codes::track_axis::TrackAxis;
 pub use codes::usage::Usage;
 pub use codes::wire_status::WireStatus;
 pub use codes::{Coded, Worded};
+pub use digits::{is_digit, is_negative, with_digits};
 pub use eco_state::EcoState;
-pub use geometry::{COORDINATE_LIMIT, Placement, Point, Rect, Shape, oriented_size};
+pub use geometry::{COORDINATE_LIMIT, Placement, Point, Rect, Shape, is_coordinate, oriented_size};
 pub use id::{
     BTermId, BlockageId, GroupId, ITermId, InstId, LayerId, MasterId, NetId, PinId, PropId,
     RegionId, RowId, SiteId, TrackId, ViaId, WireId,

@@ -1,4 +1,3 @@
 pub mod FileNames
-pub mod Digits
 pub mod TerminalLemmas
 pub mod WordLemmas

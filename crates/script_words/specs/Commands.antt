@@ -13,10 +13,13 @@ use Rattle.script_words.specs.declared.command_words.Command.{Command}
 use Rattle.script_words.specs.declared.command_words.Command.TheVariants as command
 use Rattle.script_words.specs.declared.fault.LineFault.{LineFault}
 use Rattle.script_words.specs.declared.fault.LineFault.TheVariants as fault
+use Rattle.script_words.specs.declared.verb.Verb.{Verb}
+use Rattle.script_words.specs.declared.verb.Verb.TheVariants as verb
 use Rattle.tech.specs.declared.layer.Layer.{Layer}
 use Rattle.tech.specs.declared.site.Site.{Site}
 use Rattle.script_words.specs.Answers.{IsAnswer}
-use Rattle.script_words.specs.Forms.{◌>>=◌, Taken, Words, direction_at, end_at, file_at, id_at, kind_at, layer_type_at, name_at, named_kind_at, number_at, orient_at, site_class_at, size_at, status_at, usage_at, word_at}
+use Rattle.script_words.specs.Forms.{◌>>=◌, Taken, Words, direction_at, end_at, file_at, id_at, kind_at, layer_type_at, name_at, named_kind_at, number_at, object_at, orient_at, site_class_at, size_at, status_at, usage_at, word_at}
+use Rattle.script_words.specs.Verb.{verb_named}
 use Rattle.script_words.specs.Words.{words_of}
 
 -- a command, no command in a blank line or a comment, or why the line is none
@@ -62,16 +65,14 @@ new_bterm words = do
 -- `destroy KIND ID`
 unfoldable pub destroy : Line
 destroy words = do
-  (kind, words) ← kind_at words
-  (id, words) ← id_at words
+  ((kind, id), words) ← object_at words
   done ← end_at words
   Ok (command.Edit (edit.Destroy kind id))
 
 -- `rename KIND ID NAME`
 unfoldable pub rename : Line
 rename words = do
-  (kind, words) ← kind_at words
-  (id, words) ← id_at words
+  ((kind, id), words) ← object_at words
   (name, words) ← word_at words
   done ← end_at words
   Ok (command.Edit (edit.Rename kind id name))
@@ -87,8 +88,7 @@ swap words = do
 -- `place KIND ID STATUS X Y ORIENT`
 unfoldable pub place : Line
 place words = do
-  (kind, words) ← kind_at words
-  (id, words) ← id_at words
+  ((kind, id), words) ← object_at words
   (status, words) ← status_at words
   (x, words) ← number_at words
   (y, words) ← number_at words
@@ -99,8 +99,7 @@ place words = do
 -- `set_use KIND ID USE|-`
 unfoldable pub set_use : Line
 set_use words = do
-  (kind, words) ← kind_at words
-  (id, words) ← id_at words
+  ((kind, id), words) ← object_at words
   (usage, words) ← usage_at words
   done ← end_at words
   Ok (command.Edit (edit.SetUse kind id usage))
@@ -123,8 +122,7 @@ make_special words = do
 -- `join KIND ID NET`
 unfoldable pub join : Line
 join words = do
-  (kind, words) ← kind_at words
-  (id, words) ← id_at words
+  ((kind, id), words) ← object_at words
   (net, words) ← id_at words
   done ← end_at words
   Ok (command.Edit (edit.Join kind id net))
@@ -132,8 +130,7 @@ join words = do
 -- `part KIND ID`
 unfoldable pub part : Line
 part words = do
-  (kind, words) ← kind_at words
-  (id, words) ← id_at words
+  ((kind, id), words) ← object_at words
   done ← end_at words
   Ok (command.Edit (edit.Part kind id))
 
@@ -264,11 +261,17 @@ terms words = do
 
 -- The other lines.
 
--- a command on the file of the name that ends the line
-unfoldable pub on_file : (List ℕ → Command) → Line
-on_file c words = do
+-- the name of a file that ends the line
+unfoldable pub last_file : Words → Result (List ℕ) LineFault
+last_file words = do
   (file, words) ← file_at words
   done ← end_at words
+  Ok file
+
+-- a command on a file, as `load FILE`
+unfoldable pub on_file : (List ℕ → Command) → Line
+on_file c words = do
+  file ← last_file words
   Ok (c file)
 
 -- a command without arguments, as `counts`
@@ -282,53 +285,45 @@ unfoldable pub save : Line
 save [] = Err fault.BadWords
 save (word ∷ words) = if bytes_eq word (codes "-") then bare command.SaveShown words else on_file command.Save (word ∷ words)
 
--- The table of commands, in four parts: each goes on with the one above it.
+-- the line of a verb
+unfoldable pub line_of : Verb → Line
+line_of verb.NewInst words = new_inst words
+line_of verb.NewNet words = new_net words
+line_of verb.NewBTerm words = new_bterm words
+line_of verb.Destroy words = destroy words
+line_of verb.Rename words = rename words
+line_of verb.Swap words = swap words
+line_of verb.Place words = place words
+line_of verb.SetUse words = set_use words
+line_of verb.SetDir words = set_dir words
+line_of verb.MakeSpecial words = make_special words
+line_of verb.Join words = join words
+line_of verb.Part words = part words
+line_of verb.Units words = units words
+line_of verb.Layer words = layer words
+line_of verb.Site words = site words
+line_of verb.Master words = master words
+line_of verb.ReadLef words = on_file command.ReadLef words
+line_of verb.Find words = find words
+line_of verb.List words = list words
+line_of verb.Free words = free words
+line_of verb.Counts words = bare command.Counts words
+line_of verb.Terms words = terms words
+line_of verb.Save words = save words
+line_of verb.Load words = on_file command.Load words
+line_of verb.EcoBegin words = bare command.EcoBegin words
+line_of verb.EcoUndo words = bare command.EcoUndo words
 
--- queries, saving and the ECO
-unfoldable pub asking : List ℕ → Line
-asking word words =
-    if bytes_eq word (codes "find") then find words
-    else if bytes_eq word (codes "list") then list words
-    else if bytes_eq word (codes "free") then free words
-    else if bytes_eq word (codes "counts") then bare command.Counts words
-    else if bytes_eq word (codes "terms") then terms words
-    else if bytes_eq word (codes "save") then save words
-    else if bytes_eq word (codes "load") then on_file command.Load words
-    else if bytes_eq word (codes "eco_begin") then bare command.EcoBegin words
-    else if bytes_eq word (codes "eco_undo") then bare command.EcoUndo words
-    else Err fault.UnknownCommand
+-- the verb that was named, if one was
+abbrev pub known : Option Verb → Result Verb LineFault
+known (Some verb) = Ok verb
+known None = Err fault.UnknownCommand
 
--- changes of objects that stand
-unfoldable pub changing : List ℕ → Line
-changing word words =
-    if bytes_eq word (codes "rename") then rename words
-    else if bytes_eq word (codes "swap") then swap words
-    else if bytes_eq word (codes "place") then place words
-    else if bytes_eq word (codes "set_use") then set_use words
-    else if bytes_eq word (codes "set_dir") then set_dir words
-    else if bytes_eq word (codes "make_special") then make_special words
-    else if bytes_eq word (codes "join") then join words
-    else if bytes_eq word (codes "part") then part words
-    else asking word words
-
--- what is entered into the technology and the library
-unfoldable pub entering : List ℕ → Line
-entering word words =
-    if bytes_eq word (codes "units") then units words
-    else if bytes_eq word (codes "layer") then layer words
-    else if bytes_eq word (codes "site") then site words
-    else if bytes_eq word (codes "master") then master words
-    else if bytes_eq word (codes "read_lef") then on_file command.ReadLef words
-    else changing word words
-
--- what makes and removes objects
+-- what a first word and the words behind it ask for
 unfoldable pub named : List ℕ → Line
-named word words =
-    if bytes_eq word (codes "new_inst") then new_inst words
-    else if bytes_eq word (codes "new_net") then new_net words
-    else if bytes_eq word (codes "new_bterm") then new_bterm words
-    else if bytes_eq word (codes "destroy") then destroy words
-    else entering word words
+named word words = do
+  verb ← known (verb_named word)
+  line_of verb words
 
 -- by the words of the line; a first word that begins with `#` makes it a comment
 abbrev pub asked : Words → Request

@@ -1,11 +1,12 @@
 -- The forms of words in script lines, and the words of a line taken one after another.
-use Rattle.std.specs.Prelude.{◌==◌, ◌&&◌, ◌||◌, ◌*◌, ◌+◌, ◌-◌, Bool, true, false, List, [], ◌∷◌, ℕ, ℤ, pos, negsuc, neg_ℤ, int_le, Option, None, Some, Result, Ok, Err, if◌then◌else◌, nat_le, not, option_and_then, codes, drop, fold, length, slice_index}
+use Rattle.std.specs.Prelude.{◌==◌, ◌&&◌, ◌||◌, Bool, false, List, [], ◌∷◌, ℕ, ℤ, pos, negsuc, neg_ℤ, int_le, Option, None, Some, Result, Ok, Err, if◌then◌else◌, nat_le, not, option_and_then, codes, drop, length, slice_index}
 use Rattle.std.specs.Char.{is_ascii_alphanumeric}
 use Rattle.std.specs.List.{list_all, find}
 use Rattle.std.specs.Option.{option_map}
 use Rattle.std.specs.Str.{bytes_eq}
+use Rattle.odb_base.specs.Digits.{is_digit, is_negative, number_of}
 use Rattle.odb_base.specs.Direction.{direction_word, directions}
-use Rattle.odb_base.specs.Kind.{kind_word, kinds}
+use Rattle.odb_base.specs.Kind.{has_names, kind_word, kinds}
 use Rattle.odb_base.specs.LayerType.{layer_type_word, layer_types}
 use Rattle.odb_base.specs.Name.{name_fault}
 use Rattle.odb_base.specs.Orient.{orient_word, orients}
@@ -14,7 +15,6 @@ use Rattle.odb_base.specs.SiteClass.{site_class_word, site_classes}
 use Rattle.odb_base.specs.Usage.{usage_word, usages}
 use Rattle.odb_base.specs.declared.codes.direction.Direction.{Direction}
 use Rattle.odb_base.specs.declared.codes.kind.Kind.{Kind}
-use Rattle.odb_base.specs.declared.codes.kind.Kind.TheVariants as kind
 use Rattle.odb_base.specs.declared.codes.layer_type.LayerType.{LayerType}
 use Rattle.odb_base.specs.declared.codes.orient.Orient.{Orient}
 use Rattle.odb_base.specs.declared.codes.place_status.PlaceStatus.{PlaceStatus}
@@ -43,33 +43,13 @@ Taken A = Result (A × Words) LineFault
 unfoldable pub value_named : {A : Type 0} → List A → (A → List ℕ) → List ℕ → Option A
 value_named every word_of word = find (λ value. bytes_eq (word_of value) word) every
 
--- a digit
-abbrev pub is_digit : ℕ → Bool
-is_digit b = nat_le 48 b && nat_le b 57
-
--- a number with one more digit
-abbrev pub with_digit : ℕ → ℕ → ℕ
-with_digit number digit = number * 10 + (digit - 48)
-
--- digits as one whole number
-abbrev pub number_of : List ℕ → ℕ
-number_of digits = fold with_digit 0 digits
-
 -- a digit 1 to 9 and at most 17 further digits
 abbrev pub is_positive : List ℕ → Bool
 is_positive word = nat_le 49 (slice_index word 0) && nat_le (length word) 18 && list_all is_digit word
 
--- the number with these digits behind its own, where they are digits
-abbrev pub digits_on : ℕ → List ℕ → Option ℕ
-digits_on number digits = if list_all is_digit digits then Some (fold with_digit number digits) else None
-
 -- the number of a digit 1 to 9 and at most 17 further digits
 unfoldable pub positive_named : List ℕ → Option ℕ
 positive_named word = if is_positive word then Some (number_of word) else None
-
--- a minus sign in front
-abbrev pub is_negative : List ℕ → Bool
-is_negative word = slice_index word 0 == 45
 
 -- a number: `0`, or a digit 1 to 9 and at most 17 further digits, with or without a minus sign in front
 unfoldable pub number_named : List ℕ → Option ℤ
@@ -119,20 +99,6 @@ unfoldable pub file_named : List ℕ → Option (List ℕ)
 file_named word = if is_file_name word then Some word else None
 
 -- a kind whose objects have names
-abbrev pub has_names : Kind → Bool
-has_names kind.Inst = true
-has_names kind.ITerm = false
-has_names kind.Net = true
-has_names kind.BTerm = true
-has_names kind.Pin = false
-has_names kind.Row = true
-has_names kind.Track = false
-has_names kind.Wire = false
-has_names kind.Blockage = false
-has_names kind.Region = true
-has_names kind.Group = true
-has_names kind.Prop = false
-
 abbrev pub with_names : Kind → Option Kind
 with_names kind = if has_names kind then Some kind else None
 
@@ -198,6 +164,13 @@ number_at words = form_at number_named words
 -- an identifier
 abbrev pub id_at : Words → Taken ℕ
 id_at words = form_at id_named words
+
+-- the kind and the identifier of an object
+unfoldable pub object_at : Words → Taken (Kind × ℕ)
+object_at words = do
+  (kind, words) ← kind_at words
+  (id, words) ← id_at words
+  Ok ((kind, id), words)
 
 -- a number that 32 bits with a sign hold
 abbrev pub size_at : Words → Taken ℤ

@@ -1,4 +1,5 @@
 pub mod Answers
 pub mod Commands
 pub mod Forms
+pub mod Verb
 pub mod Words

@@ -5,7 +5,7 @@ use odb_base::{Kind, Text};
 use tech::{Layer, Site};
 
 /// What a line of the script asks for.
-#[derive(Debug, Drop)]
+#[derive(Drop)]
 pub enum Command {
     /// A line of an edit.
     Edit(Edit),

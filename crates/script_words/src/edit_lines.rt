@@ -6,7 +6,7 @@ ghost use Rattle.script_words.specs.Words.{words_of};
 
 use crate::command_words::Command;
 use crate::fault::LineFault;
-use crate::forms::{end, id, number, text, worded};
+use crate::forms::{end, id, number, object, text, worded};
 use crate::words::next_word;
 use edit_words::Edit;
 use std::alloc::Global;
@@ -60,8 +60,7 @@ fn last_id(line: &[u8]) -> Result<Option<u32>, LineFault>
 pub fn destroy(line: &[u8]) -> Result<Command, LineFault>
     ensures { IsAnswer result (destroy (words_of line.now)) }
 {
-    let (kind, line) = worded(line)?;
-    let (id, line) = id(line)?;
+    let ((kind, id), line) = object(line)?;
     end(line)?;
     Ok(Command::Edit(Edit::Destroy { kind, id }))
 }
@@ -71,8 +70,7 @@ pub fn destroy(line: &[u8]) -> Result<Command, LineFault>
 pub fn rename(alloc: Global, line: &[u8]) -> Result<Command, LineFault>
     ensures { IsAnswer result (rename (words_of line.now)) }
 {
-    let (kind, line) = worded(line)?;
-    let (id, line) = id(line)?;
+    let ((kind, id), line) = object(line)?;
     let (name, line) = text(alloc, line)?;
     end(line)?;
     Ok(Command::Edit(Edit::Rename { kind, id, name }))
@@ -94,8 +92,7 @@ pub fn swap(alloc: Global, line: &[u8]) -> Result<Command, LineFault>
 pub fn place(line: &[u8]) -> Result<Command, LineFault>
     ensures { IsAnswer result (place (words_of line.now)) }
 {
-    let (kind, line) = worded(line)?;
-    let (id, line) = id(line)?;
+    let ((kind, id), line) = object(line)?;
     let (status, line) = worded(line)?;
     let (x, line) = number(line)?;
     let (y, line) = number(line)?;
@@ -116,8 +113,7 @@ pub fn place(line: &[u8]) -> Result<Command, LineFault>
 pub fn set_use(line: &[u8]) -> Result<Command, LineFault>
     ensures { IsAnswer result (set_use (words_of line.now)) }
 {
-    let (kind, line) = worded(line)?;
-    let (id, line) = id(line)?;
+    let ((kind, id), line) = object(line)?;
     let (usage, line) = worded(line)?;
     end(line)?;
     Ok(Command::Edit(Edit::SetUse { kind, id, usage }))
@@ -149,8 +145,7 @@ pub fn make_special(line: &[u8]) -> Result<Command, LineFault>
 pub fn join(line: &[u8]) -> Result<Command, LineFault>
     ensures { IsAnswer result (join (words_of line.now)) }
 {
-    let (kind, line) = worded(line)?;
-    let (id, line) = id(line)?;
+    let ((kind, id), line) = object(line)?;
     let (net, line) = crate::forms::id(line)?;
     end(line)?;
     Ok(Command::Edit(Edit::Join { kind, id, net }))
@@ -161,8 +156,7 @@ pub fn join(line: &[u8]) -> Result<Command, LineFault>
 pub fn part(line: &[u8]) -> Result<Command, LineFault>
     ensures { IsAnswer result (part (words_of line.now)) }
 {
-    let (kind, line) = worded(line)?;
-    let (id, line) = id(line)?;
+    let ((kind, id), line) = object(line)?;
     end(line)?;
     Ok(Command::Edit(Edit::Part { kind, id }))
 }

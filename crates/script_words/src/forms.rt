@@ -1,13 +1,13 @@
 ghost use Rattle.std.specs.Prelude.{◌≡◌};
 ghost use Rattle.script_words.specs.Answers.{IsCopied, IsTaken, IsWordTaken};
-ghost use Rattle.script_words.specs.Forms.{end_at, file_at, fitting, has_names, id_at, identifier, name_at, named_kind_at, number_at, size_at, value_at, word_at};
+ghost use Rattle.script_words.specs.Forms.{end_at, file_at, fitting, id_at, identifier, name_at, named_kind_at, number_at, object_at, size_at, value_at, word_at};
 ghost use Rattle.script_words.specs.Words.{words_of};
 
 use crate::fault::LineFault;
 use crate::file_name::FileName;
 use crate::number::number_named;
 use crate::words::next_word;
-use odb_base::{Kind, Name, NameFault, Text, Worded};
+use odb_base::{Coded, Kind, Name, NameFault, Text, Worded};
 use std::alloc::Global;
 
 /// The next word, and what stands behind it.
@@ -52,7 +52,7 @@ pub fn name(alloc: Global, line: &[u8]) -> Result<(Name, &[u8]), LineFault>
 
 /// The value of a set that the next word names, and what stands behind it.
 #[tactic(auto, unfolding(crate::specs::Forms::form_at, crate::specs::Forms::value_named))]
-pub fn worded<T: Worded>(line: &[u8]) -> Result<(T, &[u8]), LineFault>
+pub fn worded<T: Coded + Worded>(line: &[u8]) -> Result<(T, &[u8]), LineFault>
     ensures { IsTaken (value_at T.every T.word_of (words_of line.now)) result }
 {
     let (word, rest) = word(line)?;
@@ -65,21 +65,12 @@ pub fn worded<T: Worded>(line: &[u8]) -> Result<(T, &[u8]), LineFault>
 pub fn named_kind(line: &[u8]) -> Result<(Kind, &[u8]), LineFault>
     ensures { IsTaken (named_kind_at (words_of line.now)) result }
 {
-    let (kind, rest) = worded(line)?;
-    if has_names(kind) {
+    let (kind, rest) = worded::<Kind>(line)?;
+    if kind.has_names() {
         Ok((kind, rest))
     } else {
         Err(LineFault::BadWords)
     }
-}
-
-fn has_names(kind: Kind) -> bool
-    ensures { result ≡ has_names kind }
-{
-    matches!(
-        kind,
-        Kind::Inst | Kind::Net | Kind::BTerm | Kind::Row | Kind::Region | Kind::Group
-    )
 }
 
 /// The number that the next word is, and what stands behind it.
@@ -110,6 +101,16 @@ fn identifier(number: i64) -> Option<u32>
     } else {
         None
     }
+}
+
+/// The object that the next two words name, a kind and an identifier, and what stands behind them.
+#[tactic(auto, unfolding(crate::specs::Forms::object_at))]
+pub fn object(line: &[u8]) -> Result<((Kind, u32), &[u8]), LineFault>
+    ensures { IsTaken (object_at (words_of line.now)) result }
+{
+    let (kind, rest) = worded(line)?;
+    let (id, rest) = id(rest)?;
+    Ok(((kind, id), rest))
 }
 
 /// The number of 32 bits with its sign that the next word is, and what stands behind it.

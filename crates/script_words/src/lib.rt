@@ -20,6 +20,7 @@ pub mod number;
 mod query_lines;
 pub mod request;
 mod tech_lines;
+pub mod verb;
 pub mod words;
 
 pub use command_words::Command;

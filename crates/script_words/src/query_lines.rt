@@ -2,13 +2,14 @@
 //! words behind the command's word.
 
 ghost use Rattle.std.specs.Prelude.{◌≡◌};
-ghost use Rattle.script_words.specs.Commands.{bare, find, free, list, on_file, save, terms};
+ghost use Rattle.script_words.specs.Commands.{bare, find, free, last_file, list, on_file, save, terms};
 ghost use Rattle.script_words.specs.declared.command_words.Command.TheVariants as command;
 ghost use Rattle.script_words.specs.Answers.{IsAnswer};
 ghost use Rattle.script_words.specs.Words.{words_of};
 
 use crate::command_words::Command;
 use crate::fault::LineFault;
+use crate::file_name::FileName;
 use crate::forms::{end, file, id, named_kind, text, worded};
 use crate::words::next_word;
 use std::alloc::Global;
@@ -61,7 +62,7 @@ pub fn save(alloc: Global, line: &[u8]) -> Result<Command, LineFault>
 {
     match next_word(line) {
         None => Err(LineFault::BadWords),
-        Some((word, rest)) if word == b"-".as_slice() => bare(Command::SaveShown, rest),
+        Some((word, rest)) if word == b"-".as_slice() => save_shown(rest),
         Some(_) => save_to(alloc, line),
     }
 }
@@ -71,8 +72,7 @@ pub fn save(alloc: Global, line: &[u8]) -> Result<Command, LineFault>
 fn save_to(alloc: Global, line: &[u8]) -> Result<Command, LineFault>
     ensures { IsAnswer result (on_file command.Save (words_of line.now)) }
 {
-    let (file, line) = file(alloc, line)?;
-    end(line)?;
+    let file = last_file(alloc, line)?;
     Ok(Command::Save { file })
 }
 
@@ -81,8 +81,7 @@ fn save_to(alloc: Global, line: &[u8]) -> Result<Command, LineFault>
 pub fn load(alloc: Global, line: &[u8]) -> Result<Command, LineFault>
     ensures { IsAnswer result (on_file command.Load (words_of line.now)) }
 {
-    let (file, line) = file(alloc, line)?;
-    end(line)?;
+    let file = last_file(alloc, line)?;
     Ok(Command::Load { file })
 }
 
@@ -91,16 +90,52 @@ pub fn load(alloc: Global, line: &[u8]) -> Result<Command, LineFault>
 pub fn read_lef(alloc: Global, line: &[u8]) -> Result<Command, LineFault>
     ensures { IsAnswer result (on_file command.ReadLef (words_of line.now)) }
 {
-    let (file, line) = file(alloc, line)?;
-    end(line)?;
+    let file = last_file(alloc, line)?;
     Ok(Command::ReadLef { file })
 }
 
-/// A command without arguments.
+// The name of a file that ends the line.
+#[tactic(auto, unfolding(crate::specs::Commands::last_file))]
+fn last_file(alloc: Global, line: &[u8]) -> Result<FileName, LineFault>
+    ensures { IsAnswer result (last_file (words_of line.now)) }
+{
+    let (file, line) = file(alloc, line)?;
+    end(line)?;
+    Ok(file)
+}
+
+// `save -`, behind both words.
 #[tactic(auto, unfolding(crate::specs::Commands::bare))]
-pub fn bare(command: Command, line: &[u8]) -> Result<Command, LineFault>
-    ensures { IsAnswer result (bare command (words_of line.now)) }
+fn save_shown(line: &[u8]) -> Result<Command, LineFault>
+    ensures { IsAnswer result (bare command.SaveShown (words_of line.now)) }
 {
     end(line)?;
-    Ok(command)
+    Ok(Command::SaveShown)
+}
+
+/// `counts`.
+#[tactic(auto, unfolding(crate::specs::Commands::bare))]
+pub fn counts(line: &[u8]) -> Result<Command, LineFault>
+    ensures { IsAnswer result (bare command.Counts (words_of line.now)) }
+{
+    end(line)?;
+    Ok(Command::Counts)
+}
+
+/// `eco_begin`.
+#[tactic(auto, unfolding(crate::specs::Commands::bare))]
+pub fn eco_begin(line: &[u8]) -> Result<Command, LineFault>
+    ensures { IsAnswer result (bare command.EcoBegin (words_of line.now)) }
+{
+    end(line)?;
+    Ok(Command::EcoBegin)
+}
+
+/// `eco_undo`.
+#[tactic(auto, unfolding(crate::specs::Commands::bare))]
+pub fn eco_undo(line: &[u8]) -> Result<Command, LineFault>
+    ensures { IsAnswer result (bare command.EcoUndo (words_of line.now)) }
+{
+    end(line)?;
+    Ok(Command::EcoUndo)
 }

@@ -1,4 +1,5 @@
-ghost use Rattle.odb_base.specs.Kind.{kinds, kind_code, kind_word};
+ghost use Rattle.std.specs.Prelude.{◌≡◌};
+ghost use Rattle.odb_base.specs.Kind.{has_names, has_place, has_props, has_usage, is_terminal, kinds, kind_code, kind_word};
 
 use crate::codes::{Coded, Worded};
 
@@ -29,6 +30,49 @@ pub enum Kind {
     Group = 11,
     /// Properties of objects.
     Prop = 12,
+}
+
+impl Kind {
+    /// Whether objects of the kind have names, no two of them the same.
+    pub fn has_names(self) -> bool
+        ensures { result ≡ has_names self }
+    {
+        matches!(
+            self,
+            Kind::Inst | Kind::Net | Kind::BTerm | Kind::Row | Kind::Region | Kind::Group
+        )
+    }
+
+    /// Whether objects of the kind have a placement.
+    pub fn has_place(self) -> bool
+        ensures { result ≡ has_place self }
+    {
+        matches!(self, Kind::Inst | Kind::Pin)
+    }
+
+    /// Whether objects of the kind have a use.
+    pub fn has_usage(self) -> bool
+        ensures { result ≡ has_usage self }
+    {
+        matches!(self, Kind::Net | Kind::BTerm)
+    }
+
+    /// Whether objects of the kind are terminals, which are joined to nets.
+    pub fn is_terminal(self) -> bool
+        ensures { result ≡ is_terminal self }
+    {
+        matches!(self, Kind::ITerm | Kind::BTerm)
+    }
+
+    /// Whether objects of the kind have properties.
+    pub fn has_props(self) -> bool
+        ensures { result ≡ has_props self }
+    {
+        matches!(
+            self,
+            Kind::Inst | Kind::Net | Kind::Row | Kind::Region | Kind::Group
+        )
+    }
 }
 
 impl Coded for Kind {
