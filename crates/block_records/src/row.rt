@@ -1,4 +1,7 @@
+ghost use Rattle.std.specs.Prelude.{◌≡◌, IfOk};
+
 use odb_base::{Name, Orient, RowForm};
+use std::alloc::AllocError;
 
 /// A row of sites.
 #[derive(Debug, Drop)]
@@ -18,4 +21,24 @@ pub struct RowRec {
     pub sx: i32,
     /// The step from site to site along y, in database units.
     pub sy: i32,
+}
+
+impl RowRec {
+    /// An equal row.
+    pub fn try_clone(&self) -> Result<RowRec, AllocError>
+        ensures { IfOk result (λ row. row ≡ self.now) }
+    {
+        Ok(RowRec {
+            name: self.name.try_clone()?,
+            site: self.site,
+            x: self.x,
+            y: self.y,
+            orientation: self.orientation,
+            form: self.form,
+            nx: self.nx,
+            ny: self.ny,
+            sx: self.sx,
+            sy: self.sy,
+        })
+    }
 }

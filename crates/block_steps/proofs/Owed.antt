@@ -10,6 +10,7 @@ use Rattle.odb_base.specs.declared.codes.usage.Usage.{Usage}
 use Rattle.odb_base.specs.declared.geometry.Placement.{Placement}
 use Rattle.block_records.specs.declared.record.Record.{Record}
 use Rattle.block_records.specs.declared.record.Record.TheVariants as rec
+use Rattle.block_records.specs.declared.row.RowRec.{RowRec}
 use Rattle.edit_words.specs.declared.memo.Memo.{Memo}
 use Rattle.edit_words.specs.declared.memo.Memo.TheVariants as memo
 use Rattle.edit_words.specs.Tag.{tag_of}
@@ -34,7 +35,7 @@ use Rattle.steps_net.specs.Terms.{CanReturn, IsJoinable, IsJoined}
 use Rattle.steps_net.proofs.InstancesGone.{can_return}
 use Rattle.steps_net.proofs.InstancesMade.{came_new_inst}
 use Rattle.steps_net.proofs.Joining.{joinable_after, joined_after, next_joined}
-use Rattle.steps_net.proofs.Making.{bterm_live, bterm_ungiven, bterm_untaken, net_ungiven, net_untaken}
+use Rattle.steps_net.proofs.Making.{bterm_live, bterm_ungiven, bterm_untaken, net_ungiven, net_untaken, row_ungiven, row_untaken}
 use Rattle.steps_net.proofs.Setting.{freed_name, live_directed, live_placed, live_renamed, live_special, live_used}
 use Rattle.steps_net.proofs.SwapsMade.{can_exchange_back}
 use Rattle.block_steps.specs.Owes.{IsAskedBack, IsNamedBack, IsRejoined, IsSwappedBack, IsTakenBack, Owes}
@@ -50,6 +51,9 @@ module _ (tech : Technology) (library : List Master) (cap : ℕ) where
   asked_back kind.BTerm id d sound can =
       let r = live_record d.bterm id (bterm_live tech library cap d id can) in
       subst (λ o. IsAskedBack (record_moved (removed (option_map (λ e. rec.BTerm e.fields) o))) (deleted kind.BTerm id d)) (sym r.is) (bterm_ungiven tech library cap d id r.value sound r.is)
+  asked_back kind.Row id d sound can =
+      let r = live_record d.row id can in
+      subst (λ o. IsAskedBack (record_moved (removed (option_map (λ e. rec.Row e.fields) o))) (deleted kind.Row id d)) (sym r.is) (row_ungiven tech library cap d id r.value sound r.is)
   asked_back other id d sound can = absurd can
 
 -- from the step that led to the block, and what it moved out
@@ -59,6 +63,9 @@ module _ (tech : Technology) (library : List Master) (cap : ℕ) (d : Block) (m 
 
   bterm_by : (id : ℕ) (name : List ℕ) → Came tech library cap d (step.NewBTerm id name) m c → IsTakenBack kind.BTerm id m c
   bterm_by id name came = let is = bterm_untaken tech library cap d id name came.sound came.can in rw (came.memo, came.after) (record { can = is.0; alone = is.1 })
+
+  row_by : (id : ℕ) (row : RowRec) → Came tech library cap d (step.NewRow id row) m c → IsTakenBack kind.Row id m c
+  row_by id row came = let is = row_untaken tech library cap d id row came.sound came.can in rw (came.memo, came.after) (record { can = is.0; alone = is.1 })
 
   del_by : (k : Kind) (id : ℕ) → Came tech library cap d (step.Del k id) m c → IsAskedBack (record_moved m) c
   del_by k id came = rw (came.memo, came.after) (asked_back tech library cap k id d came.sound came.can)
@@ -103,6 +110,7 @@ module _ (tech : Technology) (library : List Master) (cap : ℕ) (d : Block) (m 
   owed_by (step.NewInst id name master terminals) came = came_new_inst tech library cap d id name master terminals m c came
   owed_by (step.NewNet id name) came = net_by tech library cap d m c id name came
   owed_by (step.NewBTerm id name) came = bterm_by tech library cap d m c id name came
+  owed_by (step.NewRow id row) came = row_by tech library cap d m c id row came
   owed_by (step.Del k id) came = del_by tech library cap d m c k id came
   owed_by (step.Rename k id name) came = rename_by tech library cap d m c k id name came
   owed_by (step.Swap inst master) came = swap_by tech library cap d m c inst master came

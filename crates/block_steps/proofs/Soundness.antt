@@ -19,7 +19,7 @@ use Rattle.steps_net.specs.Room.{IsReady, lacking, lacks}
 use Rattle.steps_net.proofs.InstancesGone.{back_del_inst, sound_del_inst}
 use Rattle.steps_net.proofs.InstancesMade.{back_new_inst, sound_new_inst}
 use Rattle.steps_net.proofs.Joining.{back_join, back_part, sound_join, sound_part}
-use Rattle.steps_net.proofs.Making.{back_del_bterm, back_del_net, back_new_bterm, back_new_net, sound_del_bterm, sound_del_net, sound_new_bterm, sound_new_net}
+use Rattle.steps_net.proofs.Making.{back_del_bterm, back_del_net, back_del_row, back_new_bterm, back_new_net, back_new_row, sound_del_bterm, sound_del_net, sound_del_row, sound_new_bterm, sound_new_net, sound_new_row}
 use Rattle.steps_net.proofs.SwapsMade.{back_swap, sound_swap}
 use Rattle.steps_net.proofs.Setting.{back_direction, back_place, back_rename, back_special, back_usage, sound_direction, sound_place, sound_rename, sound_special, sound_usage}
 
@@ -29,9 +29,11 @@ module _ (tech : Technology) (library : List Master) (cap : ℕ) (d : Block) whe
   sound_step (step.NewInst id name master terminals) sound can room = sound_new_inst tech library cap d id name master terminals sound can room
   sound_step (step.NewNet id name) sound can room = sound_new_net tech library cap d id name sound can room
   sound_step (step.NewBTerm id name) sound can room = sound_new_bterm tech library cap d id name sound can room
+  sound_step (step.NewRow id row) sound can room = sound_new_row tech library cap d id row sound can room
   sound_step (step.Del kind.Inst id) sound can room = sound_del_inst tech library cap d id sound can
   sound_step (step.Del kind.Net id) sound can room = sound_del_net tech library cap d id sound can
   sound_step (step.Del kind.BTerm id) sound can room = sound_del_bterm tech library cap d id sound can
+  sound_step (step.Del kind.Row id) sound can room = sound_del_row tech library cap d id sound can
   sound_step (step.Del other id) sound can room = absurd can
   sound_step (step.Rename k id name) sound can room = sound_rename tech library cap d k id name sound can
   sound_step (step.Swap inst master) sound can room = sound_swap tech library cap d inst master sound can
@@ -47,9 +49,11 @@ module _ (tech : Technology) (library : List Master) (cap : ℕ) (d : Block) whe
   back_step (step.NewInst id name master terminals) sound can = back_new_inst tech library cap d id name master terminals sound can
   back_step (step.NewNet id name) sound can = back_new_net tech library cap d id name sound can
   back_step (step.NewBTerm id name) sound can = back_new_bterm tech library cap d id name sound can
+  back_step (step.NewRow id row) sound can = back_new_row tech library cap d id row sound can
   back_step (step.Del kind.Inst id) sound can = back_del_inst tech library cap d id sound can
   back_step (step.Del kind.Net id) sound can = back_del_net tech library cap d id sound can
   back_step (step.Del kind.BTerm id) sound can = back_del_bterm tech library cap d id sound can
+  back_step (step.Del kind.Row id) sound can = back_del_row tech library cap d id sound can
   back_step (step.Del other id) sound can = absurd can
   back_step (step.Rename k id name) sound can = back_rename d k id name
   back_step (step.Swap inst master) sound can = back_swap tech library cap d inst master sound can
@@ -64,13 +68,14 @@ module _ (tech : Technology) (library : List Master) (cap : ℕ) (d : Block) whe
 left : (k : Kind) (n cap : ℕ) (b : Block) (next : Option Kind) → n ≤ left_in k cap b → lacking k n cap b next ≡ next
 left k n cap b next enough = ap (λ lacks. cond lacks (Some k) next) (le-ltb (left_in k cap b) n enough)
 
-pub room_suffices : (s : Step) (store : Store) → IsReady s store → IsRoomBounded kind.Inst store → IsRoomBounded kind.ITerm store → IsRoomBounded kind.Net store → IsRoomBounded kind.BTerm store → lacks s store.cap store.block ≡ None
-room_suffices (step.NewInst id name master terminals) store ready inst iterm net bterm =
+pub room_suffices : (s : Step) (store : Store) → IsReady s store → IsRoomBounded kind.Inst store → IsRoomBounded kind.ITerm store → IsRoomBounded kind.Net store → IsRoomBounded kind.BTerm store → IsRoomBounded kind.Row store → lacks s store.cap store.block ≡ None
+room_suffices (step.NewInst id name master terminals) store ready inst iterm net bterm row =
     left kind.Inst 1 store.cap store.block _ (omega (arith, ready.0, inst.high))
     ∙ left kind.ITerm (length terminals) store.cap store.block None (omega (arith, ready.1, iterm.high))
-room_suffices (step.NewNet id name) store ready inst iterm net bterm = left kind.Net 1 store.cap store.block None (omega (arith, ready, net.high))
-room_suffices (step.NewBTerm id name) store ready inst iterm net bterm = left kind.BTerm 1 store.cap store.block None (omega (arith, ready, bterm.high))
-room_suffices other store ready inst iterm net bterm = refl
+room_suffices (step.NewNet id name) store ready inst iterm net bterm row = left kind.Net 1 store.cap store.block None (omega (arith, ready, net.high))
+room_suffices (step.NewBTerm id name) store ready inst iterm net bterm row = left kind.BTerm 1 store.cap store.block None (omega (arith, ready, bterm.high))
+room_suffices (step.NewRow id r) store ready inst iterm net bterm row = left kind.Row 1 store.cap store.block None (omega (arith, ready, row.high))
+room_suffices other store ready inst iterm net bterm row = refl
 
 -- the way back from the block that a step led to
 pub led_back : (tech : Technology) (library : List Master) (cap : ℕ) (d : Block) (s : Step) (m : Memo) (c : Block) → Came tech library cap d s m c → back (tag_of s) m c ≡ d

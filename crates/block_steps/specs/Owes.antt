@@ -25,6 +25,7 @@ abbrev pub IsAskedBack : Option Record → Block → Type 0
 IsAskedBack (Some (rec.Inst r)) c = CanReturn r c
 IsAskedBack (Some (rec.Net r)) c = (free_in kind.Net c ≢ []) × IsNew (rec.Net r) c
 IsAskedBack (Some (rec.BTerm r)) c = (free_in kind.BTerm c ≢ []) × IsNew (rec.BTerm r) c
+IsAskedBack (Some (rec.Row r)) c = (free_in kind.Row c ≢ []) × IsNew (rec.Row r) c
 IsAskedBack other c = ⊥
 
 -- a new object can be taken back
@@ -54,6 +55,7 @@ abbrev pub Owes : Tag → Memo → Block → Type 0
 Owes (tag.NewInst id master) m c = CanUnmake id (grew_of m) (grown_of m) c
 Owes (tag.NewNet id) m c = IsTakenBack kind.Net id m c
 Owes (tag.NewBTerm id) m c = IsTakenBack kind.BTerm id m c
+Owes (tag.NewRow id) m c = IsTakenBack kind.Row id m c
 Owes (tag.Del k id) m c = IsAskedBack (record_moved m) c
 Owes (tag.Rename k id) m c = IsNamedBack k id m c
 Owes (tag.Swap inst) m c = IsSwappedBack inst m c

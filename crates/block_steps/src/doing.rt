@@ -17,7 +17,7 @@ use odb_base::{Kind, MasterId, Steps};
 use std::sync::ledger::Ledger;
 use steps_net::instances::{del_inst, new_inst};
 use steps_net::joins::{join, part};
-use steps_net::nets::{new_bterm, new_net};
+use steps_net::nets::{new_bterm, new_net, new_row};
 use steps_net::swaps::swap;
 use tech::Tech;
 
@@ -48,11 +48,13 @@ fn count_room(block: &Block)
     ensures iterm { IsRoomBounded kind.ITerm block.now }
     ensures net { IsRoomBounded kind.Net block.now }
     ensures bterm { IsRoomBounded kind.BTerm block.now }
+    ensures row { IsRoomBounded kind.Row block.now }
 {
     block.slots(Kind::Inst);
     block.slots(Kind::ITerm);
     block.slots(Kind::Net);
     block.slots(Kind::BTerm);
+    block.slots(Kind::Row);
 }
 
 fn do_one<L: Ledger>(
@@ -78,11 +80,15 @@ fn do_one<L: Ledger>(
         } => new_inst(block, id, name, master, terminals, moves),
         Step::NewNet { name, .. } => new_net(block, name, moves),
         Step::NewBTerm { name, .. } => new_bterm(block, name, moves),
-        Step::Del { kind, id } => Memo::Record(match kind {
-            Kind::Inst => del_inst(block, id, moves),
-            Kind::Net | Kind::BTerm => block.give(kind, id, moves),
-            _ => unreachable!(),
-        }),
+        Step::NewRow { row, .. } => new_row(block, row, moves),
+        Step::Del { kind, id } => Memo::Record {
+            record: match kind {
+                Kind::Inst => del_inst(block, id, moves),
+                Kind::Net | Kind::BTerm | Kind::Row => block.give(kind, id, moves),
+                _ => unreachable!(),
+            },
+            next: None,
+        },
         Step::Rename { kind, id, name } => Memo::Name(block.rename(kind, id, name, moves)),
         Step::Swap { inst, master } => exchange_master(block, tech, library, inst, master, moves),
         Step::Place { kind, id, place } => Memo::Place(block.set_place(kind, id, place, moves)),

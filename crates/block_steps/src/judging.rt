@@ -1,25 +1,22 @@
 ghost use Rattle.std.specs.Prelude.{◌≡◌, ◌↔◌, ℕ, IsErr, IsOk, IsSome, IsTrue, List, Some, false, length};
 ghost use Rattle.slot_pool.specs.Table.{is_live, next_id};
-ghost use Rattle.odb_base.specs.Geometry.{IsCoordinate};
 ghost use Rattle.library.specs.Terminals.{term_index};
 ghost use Rattle.block_store.specs.Block.{live_in};
-ghost use Rattle.block_store.specs.Fields.{HasPlace, HasUsage, net_in, special_in};
+ghost use Rattle.block_store.specs.Fields.{net_in, special_in};
 ghost use Rattle.block_store.specs.Names.{HasNames};
 ghost use Rattle.block_store.specs.BlockTerminals.{IsBTermDirection};
 ghost use Rattle.block_store.specs.Instances.{term_count};
-ghost use Rattle.block_store.specs.Placements.{IsPlacement};
 ghost use Rattle.block_store.specs.Sound.{IsSound, iterm_net};
-ghost use Rattle.steps_net.specs.Can.{AreNext, AreUnjoined, Can, CanDel, CanJoin, CanName, CanNewInst, CanPart, CanPlace, CanRename, CanSetUse, CanSwap};
+ghost use Rattle.steps_net.specs.Can.{AreNext, AreUnjoined, Can, CanDel, CanJoin, CanName, CanNewInst, CanNewRow, CanPart, CanPlace, CanRename, CanSetUse, CanSwap};
 
 use crate::masters::master_of;
+use block_records::RowRec;
 use block_store::block::Block;
 use block_store::list_of::ListOf;
+use block_store::{is_bterm_direction, is_placement, is_row};
 use edit_words::Step;
 use library::{Library, Master};
-use odb_base::{
-    BTermId, COORDINATE_LIMIT, Direction, ITermId, InstId, Kind, MasterId, Name, NetId,
-    PlaceStatus, Placement,
-};
+use odb_base::{BTermId, Direction, ITermId, InstId, Kind, MasterId, Name, NetId, Placement};
 use tech::Tech;
 
 /// The step can't be done.
@@ -51,6 +48,7 @@ fn fits(block: &Block, tech: &Tech, library: &Library, step: &Step) -> bool
         } => can_new_inst(block, library, *id, name, *master, terminals.items()),
         Step::NewNet { id, name } => can_name(block, Kind::Net, *id, name),
         Step::NewBTerm { id, name } => can_name(block, Kind::BTerm, *id, name),
+        Step::NewRow { id, row } => can_new_row(block, tech, *id, row),
         Step::Del { kind, id } => can_del(block, *kind, *id),
         Step::Rename { kind, id, name } => can_rename(block, *kind, *id, name),
         Step::Swap { inst, master } => can_swap(block, library, *inst, *master),
@@ -84,6 +82,13 @@ fn can_new_inst(
         && are_next(block, terminals)
 }
 
+fn can_new_row(block: &Block, tech: &Tech, id: u32, row: &RowRec) -> bool
+    ensures { IsTrue result ↔ CanNewRow tech.now block.now.block id row.now }
+{
+    let named = can_name(block, Kind::Row, id, &row.name);
+    named && is_row(tech, row)
+}
+
 // A master is in the library and has so many terminals.
 fn has_terms(library: &Library, master: u32, count: usize) -> bool
     ensures { IsTrue result ↔ (term_count library.now master ≡ Some count) }
@@ -115,6 +120,7 @@ fn can_del(block: &Block, kind: Kind, id: u32) -> bool
         Kind::Net => block.live(Kind::Net, id)
             && block.members(ListOf::Terms(NetId(id))).is_empty(),
         Kind::BTerm => net_of(block, Kind::BTerm, id) == Some(0),
+        Kind::Row => block.live(Kind::Row, id),
         _ => false,
     }
 }
@@ -161,61 +167,25 @@ fn can_rename(block: &Block, kind: Kind, id: u32, name: &Name) -> bool
 fn has_name(block: &Block, kind: Kind, id: u32) -> bool
     ensures { IsTrue result ↔ HasNames kind × IsTrue (live_in kind id block.now.block) }
 {
-    has_names(kind) && block.live(kind, id)
-}
-
-fn has_names(kind: Kind) -> bool
-    ensures { IsTrue result ↔ HasNames kind }
-{
-    matches!(
-        kind,
-        Kind::Inst | Kind::Net | Kind::BTerm | Kind::Row | Kind::Region | Kind::Group
-    )
+    kind.has_names() && block.live(kind, id)
 }
 
 fn can_place(block: &Block, kind: Kind, id: u32, place: Placement) -> bool
     ensures { IsTrue result ↔ CanPlace block.now.block kind id place }
 {
-    has_place(kind) && block.live(kind, id) && is_placement(place)
-}
-
-fn has_place(kind: Kind) -> bool
-    ensures { IsTrue result ↔ HasPlace kind }
-{
-    matches!(kind, Kind::Inst | Kind::Pin)
-}
-
-fn has_usage(kind: Kind) -> bool
-    ensures { IsTrue result ↔ HasUsage kind }
-{
-    matches!(kind, Kind::Net | Kind::BTerm)
-}
-
-fn is_placement(place: Placement) -> bool
-    ensures { IsTrue result ↔ IsPlacement place }
-{
-    is_coordinate(place.x)
-        && is_coordinate(place.y)
-        && (place.status != PlaceStatus::Unplaced || place == Placement::UNPLACED)
-}
-
-fn is_coordinate(n: i32) -> bool
-    ensures { IsTrue result ↔ IsCoordinate n }
-{
-    let limit = COORDINATE_LIMIT as i32;
-    -limit <= n && n <= limit
+    kind.has_place() && block.live(kind, id) && is_placement(place)
 }
 
 fn can_set_use(block: &Block, kind: Kind, id: u32) -> bool
     ensures { IsTrue result ↔ CanSetUse block.now.block kind id }
 {
-    has_usage(kind) && block.live(kind, id)
+    kind.has_usage() && block.live(kind, id)
 }
 
 fn can_set_direction(block: &Block, bterm: u32, direction: Direction) -> bool
     ensures { IsTrue result ↔ IsTrue (is_live block.now.block.bterm bterm) × IsBTermDirection direction }
 {
-    block.live(Kind::BTerm, bterm) && direction != Direction::Tristate
+    block.live(Kind::BTerm, bterm) && is_bterm_direction(direction)
 }
 
 fn can_make_special(block: &Block, net: u32) -> bool

@@ -28,6 +28,7 @@ pub fn make_room(block: &mut Block, library: &Library, step: &Step) -> Result<()
         Step::NewInst { terminals, .. } => room_for_inst(block, terminals.items().len()),
         Step::NewNet { .. } => block.room(Kind::Net, 1),
         Step::NewBTerm { .. } => block.room(Kind::BTerm, 1),
+        Step::NewRow { .. } => block.room(Kind::Row, 1),
         Step::Swap { inst, .. } => room_in(block, ListOf::InstTerms(InstId(*inst))),
         Step::Join { net, .. } => room_in(block, ListOf::Terms(NetId(*net))),
         _ => Ok(()),

@@ -67,6 +67,7 @@ fn undo_plain<L: Ledger>(block: &mut Block, tag: Tag, memo: &Memo, moves: &mut S
         Tag::NewInst { id, .. } => undo_new_inst(block, id, grew(memo), grown(memo), moves),
         Tag::NewNet { id } => untake(block, Kind::Net, id, memo, moves),
         Tag::NewBTerm { id } => untake(block, Kind::BTerm, id, memo, moves),
+        Tag::NewRow { id } => untake(block, Kind::Row, id, memo, moves),
         Tag::Place { kind, id } => {
             block.set_place(kind, id, place_before(memo), moves);
         }
@@ -103,12 +104,27 @@ fn undelete<L: Ledger>(block: &mut Block, id: u32, memo: Memo, moves: &mut Steps
     ensures cap { block.new.cap ≡ block.old.cap }
 {
     match memo {
-        Memo::Record(Record::Inst(inst)) => undo_del_inst(block, inst, id, moves),
-        Memo::Record(Record::Net(net)) => {
+        Memo::Record {
+            record: Record::Inst(inst),
+            ..
+        } => undo_del_inst(block, inst, id, moves),
+        Memo::Record {
+            record: Record::Net(net),
+            ..
+        } => {
             block.ungive(Record::Net(net), moves);
         }
-        Memo::Record(Record::BTerm(bterm)) => {
+        Memo::Record {
+            record: Record::BTerm(bterm),
+            ..
+        } => {
             block.ungive(Record::BTerm(bterm), moves);
+        }
+        Memo::Record {
+            record: Record::Row(row),
+            ..
+        } => {
+            block.ungive(Record::Row(row), moves);
         }
         _ => unreachable!(),
     }

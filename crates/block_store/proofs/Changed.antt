@@ -1,21 +1,25 @@
 -- A sound block with one table changed, and what that table owes.
-use Rattle.std.proofs.Common.{◌≡◌, ◌≢◌, ◌+◌, ◌-◌, ◌≤◌, List, ℕ, Option, None, Some, IsTrue, length, refl, sym, ap, subst, ◌∙◌}
+use Rattle.std.proofs.Common.{◌≡◌, ◌≢◌, ◌+◌, ◌-◌, ◌≤◌, false, arith, List, ℕ, Option, None, Some, IsTrue, length, refl, sym, ap, subst, ◌∙◌}
 use Rattle.std.specs.Option.{option_map, option_map_or, unwrap_or}
-use Rattle.slot_pool.specs.Table.{IsGood, Table, given, is_live, record_at, taken}
+use Rattle.std.proofs.lemmas.Bool.{false≢true}
+use Rattle.std.proofs.lemmas.Bool.Decides.{nat_tests}
+use Rattle.slot_pool.specs.Table.{IsGood, Table, given, is_live, next_id, record_at, taken, ungiven, untaken}
 use Rattle.odb_base.specs.declared.codes.kind.Kind.{Kind}
+use Rattle.odb_base.specs.declared.codes.kind.Kind.TheVariants as kind
 use Rattle.block_records.specs.declared.header.Header.{Header}
 use Rattle.tech.specs.Technology.{Technology}
 use Rattle.library.specs.declared.master.Master.{Master}
-use Rattle.block_store.specs.Block.{Block}
+use Rattle.block_store.specs.Block.{Block, empty_table, is_empty}
 use Rattle.block_store.specs.KindLaws.{Parts}
-use Rattle.block_store.specs.Kinds.{Entry, on_entry, table_of, with_table}
+use Rattle.block_store.specs.Kinds.{Entry, on_entry, table, table_of, with_table}
 use Rattle.block_store.specs.Lens.{Lens}
 use Rattle.block_store.specs.Lists.{on_record}
 use Rattle.block_store.specs.Names.{name_by}
 use Rattle.block_store.specs.Sound.{AreJoined, IsKind, IsSound}
-use Rattle.block_store.specs.Tables.{HasDistinctNames, IsTable}
+use Rattle.block_store.specs.Tables.{AreEach, AreNamed, HasDistinctNames, IsTable}
 use Rattle.block_store.specs.View.{laws, view}
 use Rattle.block_store.proofs.OneTable.{header_stays, shown, stays, view_same}
+use Rattle.block_store.proofs.TableLemmas.{back_given, back_taken, none_in_empty, on_missing}
 use Rattle.block_store.proofs.Shown.{each_given, each_on, each_taken, live_record, named_given, named_on, named_stands, named_taken, table_given, table_on, table_taken, view_given, view_on, view_taken}
 
 module _ {A : Type 0} where
@@ -41,7 +45,42 @@ module _ {A : Type 0} where
   names_given None id t live named = tt
   names_given (Some name) id t live named = named_given name.get id t live named
 
+module _ {A : Type 0} where
+  table_empty : (cap : ℕ) → IsTable cap (empty_table {A = A})
+  table_empty cap = record { good = λ id. grind (arith, nat_tests); within = omega arith }
+
+  each_empty : (Is : A → Type 0) → AreEach Is empty_table
+  each_empty Is = λ id x found. let none : record_at (empty_table {A = A}) id ≡ None = none_in_empty id in cc
+
+  named_empty : (name_of : A → List ℕ) → AreNamed name_of empty_table
+  named_empty name_of = λ a b name here there.
+      let none : name_by name_of a (empty_table {A = A}) ≡ None = ap (option_map name_of) (none_in_empty a) in cc
+
+  names_empty : (name : Option (Lens A (List ℕ))) → HasDistinctNames name empty_table
+  names_empty None = tt
+  names_empty (Some name) = named_empty name.get
+
+  -- a change of what isn't there
+  on_empty : (change : A → A) (id : ℕ) (t : Table A) → t ≡ empty_table → on_record change id t ≡ empty_table
+  on_empty change id t empty = subst (λ u. on_record change id u ≡ empty_table) (sym empty) (on_missing change id empty_table (none_in_empty id))
+
+-- no record of a kind that is still to come is lawful
+not_yet : (k : Kind) (parts : Parts) (x : Entry k) → (laws k).built ≡ false → (laws k).Is parts x → ⊥
+not_yet kind.Inst parts x unbuilt is = false≢true (sym unbuilt)
+not_yet kind.ITerm parts x unbuilt is = false≢true (sym unbuilt)
+not_yet kind.Net parts x unbuilt is = false≢true (sym unbuilt)
+not_yet kind.BTerm parts x unbuilt is = false≢true (sym unbuilt)
+not_yet kind.Row parts x unbuilt is = false≢true (sym unbuilt)
+not_yet k parts x unbuilt is = is
+
 module _ (parts : Parts) (cap : ℕ) where
+  -- an empty table
+  pub kind_empty : (k : Kind) → IsKind parts cap k empty_table
+  kind_empty k = record { table = table_empty cap; each = each_empty ((laws k).Is parts); named = names_empty (laws k).name; coming = λ unbuilt. refl }
+
+  pub kind_coming : (k : Kind) (t : Table (Entry k)) → t ≡ empty_table → IsKind parts cap k t
+  kind_coming k t empty = subst (IsKind parts cap k) (sym empty) (kind_empty k)
+
   -- all kinds are sound by themselves
   abbrev pub AreKinds : Block → Type 0
   AreKinds b = (k : Kind) → IsKind parts cap k (table_of k b)
@@ -52,6 +91,7 @@ module _ (parts : Parts) (cap : ℕ) where
     table = table_on cap change id t is.table;
     each = each_on ((laws k).Is parts) change id t lawful is.each;
     named = names_on (laws k).name change id t keeps is.named;
+    coming = λ unbuilt. on_empty change id t (is.coming unbuilt);
   }
 
   kind_taken : (k : Kind) (x : Entry k) (t : Table (Entry k)) → 1 ≤ length t.free + (cap - length t.slots) → (laws k).Is parts x → HasNewName (laws k).name x t → IsKind parts cap k t → IsKind parts cap k (taken x t)
@@ -59,6 +99,7 @@ module _ (parts : Parts) (cap : ℕ) where
     table = table_taken cap x t room is.table;
     each = each_taken ((laws k).Is parts) x t is.table.good lawful is.each;
     named = names_taken (laws k).name x t is.table.good new is.named;
+    coming = λ unbuilt. absurd (not_yet k parts x unbuilt lawful);
   }
 
   kind_given : (k : Kind) (id : ℕ) (t : Table (Entry k)) → IsTrue (is_live t id) → IsKind parts cap k t → IsKind parts cap k (given id t)
@@ -66,6 +107,7 @@ module _ (parts : Parts) (cap : ℕ) where
     table = table_given cap id t live is.table;
     each = each_given ((laws k).Is parts) id t live is.each;
     named = names_given (laws k).name id t live is.named;
+    coming = λ unbuilt. let x = live_record t id live in absurd (not_yet k parts x.value unbuilt (is.each id x.value x.is));
   }
 
   -- a kind's entry changed in a block
@@ -112,6 +154,7 @@ module _ (tech : Technology) (library : List Master) (cap : ℕ) where
           each = each_on ((laws k).Is (parts_by tech library d.header)) (name.set new) id t (λ x found is. lawful x is) (sound.kinds k).each;
           named = subst (λ o. HasDistinctNames o (on_record (name.set new) id t)) (sym is)
               (named_on name.get (name.set new) id x.value t x.is (λ other at. free other (at ∙ ap Some (name.set_get new x.value))) named);
+          coming = λ unbuilt. on_empty (name.set new) id t ((sound.kinds k).coming unbuilt);
         })
         (view_on (λ o. option_map_or (laws k).see o (laws k).none) (name.set new) id t (λ x found. same x)) sound
 
@@ -126,3 +169,26 @@ module _ (tech : Technology) (library : List Master) (cap : ℕ) where
     sound_gone k id live none sound =
         sound_table k (given id (table_of k d)) (kind_given (parts_by tech library d.header) cap k id (table_of k d) live (sound.kinds k))
         (view_given (λ o. option_map_or (laws k).see o (laws k).none) id (table_of k d) live none) sound
+
+module _ (d : Block) where
+  -- an object that came is taken back
+  pub back_made : (k : Kind) (x : Entry k) (id : ℕ) → IsGood (table_of k d) → id ≡ next_id (table_of k d) 0 →
+      let c = with_table k (taken x (table_of k d)) d in with_table k (untaken id (is_empty (table_of k d).free) (table_of k c)) c ≡ d
+  back_made k x id good next =
+      let t = table_of k d in
+      let c = with_table k (taken x t) d in
+      ap (λ u. with_table k (untaken id (is_empty t.free) u) c) ((table k).set_get (taken x t) d)
+      ∙ (table k).set_set (untaken id (is_empty t.free) (taken x t)) (taken x t) d
+      ∙ ap (λ u. with_table k u d) (ap (λ i. untaken i (is_empty t.free) (taken x t)) next ∙ back_taken x t good)
+      ∙ (table k).get_set d
+
+  -- an object that went is back
+  pub back_gone : (k : Kind) (x : Entry k) (id : ℕ) → record_at (table_of k d) id ≡ Some x →
+      let c = with_table k (given id (table_of k d)) d in with_table k (ungiven x (table_of k c)) c ≡ d
+  back_gone k x id found =
+      let t = table_of k d in
+      let c = with_table k (given id t) d in
+      ap (λ u. with_table k (ungiven x u) c) ((table k).set_get (given id t) d)
+      ∙ (table k).set_set (ungiven x (given id t)) (given id t) d
+      ∙ ap (λ u. with_table k u d) (back_given x id t found)
+      ∙ (table k).get_set d

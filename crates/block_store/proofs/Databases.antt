@@ -28,24 +28,10 @@ use Rattle.block_store.specs.Sorts.{AreHeld, sort}
 use Rattle.block_store.specs.Sound.{HasLawfulMasters, IsKind, IsSound}
 use Rattle.block_store.specs.Tables.{AreEach, AreNamed, HasDistinctNames, IsTable}
 use Rattle.block_store.specs.View.{laws, view}
-use Rattle.block_store.proofs.Changed.{parts_by}
+use Rattle.block_store.proofs.Changed.{kind_empty, parts_by}
+use Rattle.block_store.proofs.TableLemmas.{none_in_empty}
 use Rattle.block_store.proofs.Memberships.{no_list, no_name}
 use Rattle.block_store.specs.TermPlaces.{ArePlaced}
-
-module _ {A : Type 0} where
-  -- an empty table has no record
-  pub none_in_empty : (id : ℕ) → record_at (empty_table {A = A}) id ≡ None
-  none_in_empty id = grind (arith, nat_tests)
-
-  table_empty : (cap : ℕ) → IsTable cap (empty_table {A = A})
-  table_empty cap = record { good = λ id. grind (arith, nat_tests); within = omega arith }
-
-  each_empty : (Is : A → Type 0) → AreEach Is empty_table
-  each_empty Is = λ id x found. let none = none_in_empty id in cc
-
-  named_empty : (name_of : A → List ℕ) → AreNamed name_of empty_table
-  named_empty name_of = λ a b name here there.
-      let none : name_by name_of a (empty_table {A = A}) ≡ None = ap (option_map name_of) (none_in_empty a) in cc
 
 -- nothing is held, and nothing names anything
 held_empty : (list : ℕ → List ℕ) (number owner : ℕ → ℕ) → ((object : ℕ) → list object ≡ []) → ((member : ℕ) → owner member ≡ 0) → AreHeld list number owner
@@ -60,16 +46,9 @@ placed_empty list place none nowhere = λ object k part. (
 )
 
 module _ (parts : Parts) (cap : ℕ) where
-  names_empty : {A : Type 0} (name : Option (Lens A (List ℕ))) → HasDistinctNames name empty_table
-  names_empty None = tt
-  names_empty (Some name) = named_empty name.get
-
-  kind_empty : (k : Kind) → IsKind parts cap k empty_table
-  kind_empty k = record { table = table_empty cap; each = each_empty ((laws k).Is parts); named = names_empty (laws k).name }
-
   kinds_empty : (header : Header) (k : Kind) → IsKind parts cap k (table_of k (empty_block header))
-  kinds_empty header kind.Inst = kind_empty kind.Inst
-  kinds_empty header k = kind_empty k
+  kinds_empty header kind.Inst = kind_empty parts cap kind.Inst
+  kinds_empty header k = kind_empty parts cap k
 
 -- a block without objects shows nothing
 view_empty : (header : Header) (k : Kind) (id : ℕ) → view (empty_block header) k id ≡ (laws k).none
@@ -160,6 +139,7 @@ sound_over tech new library more cap b masters lawful sound = record {
     table = (sound.kinds k).table;
     each = λ id x found. lawful k x ((sound.kinds k).each id x found);
     named = (sound.kinds k).named;
+    coming = (sound.kinds k).coming;
   };
   joined = sound.joined;
 }

@@ -159,8 +159,8 @@ module _ (tech : Technology) (library : List Master) (cap : ℕ) (d : Block) (s 
       let number = (sort s).number member in
       let enter : List ℕ → List ℕ = λ ids. number ∷ ids in
       let own = held_linked (list_of s (view d)) (list_of s (view (entered s member object d))) (sort s).number (owner_of s (view d)) (owner_of s (view (entered s member object d))) object member
-          (from_one (table_of (sort s).owner d) object live) (numbers_apart s) (list_now s enter object member object d live) (list_other s enter object member object d)
-          none (name_now s enter object member object d there) (name_other s enter object member object d) (sound.joined.held s) in
+      (from_one (table_of (sort s).owner d) object live) (numbers_apart s) (list_now s enter object member object d live) (list_other s enter object member object d)
+      none (name_now s enter object member object d there) (name_other s enter object member object d) (sound.joined.held s) in
       sound_moved s enter object member object d tech library cap sound
       (held_after s enter object member object d live (λ n apart. times_cons_other n number (list_of s (view d) object) (λ same. apart (sym same))) sound.joined.held own)
 
@@ -170,8 +170,8 @@ module _ (tech : Technology) (library : List Master) (cap : ℕ) (d : Block) (s 
       let leave : List ℕ → List ℕ = without number in
       let live = object_live object number (member_inside sound member object some named) in
       let own = held_unlinked (list_of s (view d)) (list_of s (view (left s member object d))) (sort s).number (owner_of s (view d)) (owner_of s (view (left s member object d))) object member
-          some (numbers_apart s) (list_now s leave object member 0 d live) (list_other s leave object member 0 d)
-          named (name_now s leave object member 0 d there) (name_other s leave object member 0 d) (sound.joined.held s) in
+      some (numbers_apart s) (list_now s leave object member 0 d live) (list_other s leave object member 0 d)
+      named (name_now s leave object member 0 d there) (name_other s leave object member 0 d) (sound.joined.held s) in
       sound_moved s leave object member 0 d tech library cap sound
       (held_after s leave object member 0 d live (λ n apart. times_without_other (list_of s (view d) object) number n apart) sound.joined.held own)
 
@@ -198,14 +198,14 @@ moved_back s later first object member was named d list_back name_back =
     let lists : Block = on_entry (sort s).owner (over (sort s).list first) object d in
     ap (on_entry (sort s).member ((sort s).names.set was) member) (one_after_other s (over (sort s).list later) ((sort s).names.set named) object member lists)
     ∙ ap (λ b. on_entry (sort s).member ((sort s).names.set was) member (on_entry (sort s).member ((sort s).names.set named) member b))
-      (on_entry_back (sort s).owner (over (sort s).list later) (over (sort s).list first) object d
-      (on_on (over (sort s).list later) (over (sort s).list first) object (table_of (sort s).owner d)
-      ∙ on_same (λ x. over (sort s).list later (over (sort s).list first x)) object (table_of (sort s).owner d)
-      (λ x found. list_same s later first object x d found list_back)))
+    (on_entry_back (sort s).owner (over (sort s).list later) (over (sort s).list first) object d
+    (on_on (over (sort s).list later) (over (sort s).list first) object (table_of (sort s).owner d)
+    ∙ on_same (λ x. over (sort s).list later (over (sort s).list first x)) object (table_of (sort s).owner d)
+    (λ x found. list_same s later first object x d found list_back)))
     ∙ on_entry_back (sort s).member ((sort s).names.set was) ((sort s).names.set named) member d
-      (on_on ((sort s).names.set was) ((sort s).names.set named) member (table_of (sort s).member d)
-      ∙ on_same (λ x. (sort s).names.set was ((sort s).names.set named x)) member (table_of (sort s).member d)
-      (λ x found. name_same s was named member x d found name_back))
+    (on_on ((sort s).names.set was) ((sort s).names.set named) member (table_of (sort s).member d)
+    ∙ on_same (λ x. (sort s).names.set was ((sort s).names.set named x)) member (table_of (sort s).member d)
+    (λ x found. name_same s was named member x d found name_back))
 
 -- a member in front goes
 without_front : (id : ℕ) (ids : List ℕ) → without id (id ∷ ids) ≡ ids

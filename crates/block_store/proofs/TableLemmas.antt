@@ -8,10 +8,15 @@ use Rattle.slot_pool.proofs.Counts.{live_within, vacant_within}
 use Rattle.slot_pool.proofs.GoodTables.{next_ids_are_new}
 use Rattle.slot_pool.proofs.Records.{records_after_give, records_after_replace, records_after_take}
 use Rattle.slot_pool.proofs.Tables.{IsGood-given, IsGood-replaced, IsGood-taken, given-taken, taken-given, top_is, untaken-taken}
-use Rattle.block_store.specs.Block.{is_empty}
+use Rattle.std.proofs.lemmas.Bool.Decides.{nat_tests}
+use Rattle.block_store.specs.Block.{empty_table, is_empty}
 use Rattle.block_store.specs.Lists.{on_record, on_slot}
 
 module _ {A : Type 0} where
+  -- an empty table has no record
+  pub none_in_empty : (id : ℕ) → record_at (empty_table {A = A}) id ≡ None
+  none_in_empty id = grind (arith, nat_tests)
+
   -- the identifier that a good table gives next has no record yet
   pub at_next : (t : Table A) → IsGood t → record_at t (next_id t 0) ≡ None
   at_next t good = next_ids_are_new t good 0

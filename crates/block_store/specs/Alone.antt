@@ -85,11 +85,11 @@ pub data IsTerminal (b : Block) : ℕ → Type 0 where
   OfInst : (id : ℕ) → IsTrue (is_live b.iterm id) → IsTerminal b (iterm_number id)
   OfBlock : (id : ℕ) → IsTrue (is_live b.bterm id) → IsTerminal b (bterm_number id)
 
--- the member is there, and stands in no list of that sort
+-- the member is there, and stands in no list of that sort; lists of properties are of one sort, whatever has them
 abbrev pub IsOutside : ListOf → ℕ → Block → Type 0
 IsOutside (list.Terms net) member b = IsTerminal b member × InNoTerms member b
 IsOutside (list.Wires net) member b = IsTrue (is_live b.wire member) × InNoWires member b
-IsOutside (list.Props k id) member b = IsTrue (is_live b.prop member) × InNoProps k member b
+IsOutside (list.Props k id) member b = IsTrue (is_live b.prop member) × ((j : Kind) → InNoProps j member b)
 IsOutside (list.Members group) member b = IsTrue (is_live b.inst member) × InNoMembers member b
 IsOutside (list.Pins bterm) member b = IsTrue (is_live b.pin member) × InNoPins member b
 IsOutside (list.Groups region) member b = IsTrue (is_live b.group member) × InNoGroups member b

@@ -1,6 +1,6 @@
 -- What a terminal of the block states of itself.
 use Rattle.std.proofs.Common.{refl}
-use Rattle.std.specs.Prelude.{◌≡◌, List, [], ℕ, Some}
+use Rattle.std.specs.Prelude.{◌≡◌, true, List, [], ℕ, Some}
 use Rattle.odb_base.specs.Name.{IsName}
 use Rattle.odb_base.specs.declared.codes.direction.Direction.{Direction}
 use Rattle.odb_base.specs.declared.codes.direction.Direction.TheVariants as direction
@@ -35,6 +35,7 @@ bterm_name = record {
 
 abbrev pub bterm_laws : KindLaws BTermEntry
 bterm_laws = record {
+  built = true;
   Links = BTermLinks;
   see = λ e. record { net = e.fields.net };
   none = record { net = 0 };

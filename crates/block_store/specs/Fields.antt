@@ -1,7 +1,8 @@
 -- The fields of objects that the calls of a block set, and of which kinds they are.
-use Rattle.std.specs.Prelude.{Bool, List, ℕ, Option, None, option_map}
+use Rattle.std.specs.Prelude.{Bool, List, ℕ, Option, None, IsTrue, option_map}
 use Rattle.slot_pool.specs.Table.{record_at}
 use Rattle.odb_base.specs.declared.codes.direction.Direction.{Direction}
+use Rattle.odb_base.specs.Kind.{has_place, has_usage, is_terminal}
 use Rattle.odb_base.specs.declared.codes.kind.Kind.{Kind}
 use Rattle.odb_base.specs.declared.codes.kind.Kind.TheVariants as kind
 use Rattle.odb_base.specs.declared.codes.usage.Usage.{Usage}
@@ -16,9 +17,7 @@ net_in other id b = None
 
 -- objects of the kind have this field
 abbrev pub HasNet : Kind → Type 0
-HasNet kind.ITerm = Unit {0}
-HasNet kind.BTerm = Unit {0}
-HasNet other = ⊥
+HasNet k = IsTrue (is_terminal k)
 
 -- the placement of an instance or a pin
 abbrev pub place_in : Kind → ℕ → Block → Option Placement
@@ -28,9 +27,7 @@ place_in other id b = None
 
 -- objects of the kind have this field
 abbrev pub HasPlace : Kind → Type 0
-HasPlace kind.Inst = Unit {0}
-HasPlace kind.Pin = Unit {0}
-HasPlace other = ⊥
+HasPlace k = IsTrue (has_place k)
 
 -- the use of a net or a block terminal
 abbrev pub usage_in : Kind → ℕ → Block → Option Usage
@@ -40,9 +37,7 @@ usage_in other id b = None
 
 -- objects of the kind have this field
 abbrev pub HasUsage : Kind → Type 0
-HasUsage kind.Net = Unit {0}
-HasUsage kind.BTerm = Unit {0}
-HasUsage other = ⊥
+HasUsage k = IsTrue (has_usage k)
 
 -- the direction of a block terminal
 abbrev pub direction_in : ℕ → Block → Option Direction

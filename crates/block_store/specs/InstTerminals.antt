@@ -1,5 +1,5 @@
 -- What a terminal of an instance states of itself.
-use Rattle.std.specs.Prelude.{ℕ, Option, None, Some}
+use Rattle.std.specs.Prelude.{true, ℕ, Option, None, Some}
 use Rattle.block_records.specs.declared.iterm.ITermRec.{ITermRec}
 use Rattle.block_store.specs.KindLaws.{KindLaws}
 
@@ -10,6 +10,7 @@ pub record ITermLinks : Type 0 where
 
 abbrev pub iterm_laws : KindLaws ITermRec
 iterm_laws = record {
+  built = true;
   Links = ITermLinks;
   see = λ r. record { net = r.net; place = Some (r.inst, r.index) };
   none = record { net = 0; place = None };

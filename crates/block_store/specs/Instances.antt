@@ -1,6 +1,6 @@
 -- What an instance states of itself.
 use Rattle.std.proofs.Common.{refl}
-use Rattle.std.specs.Prelude.{◌≡◌, List, [], ℕ, Option, Some, length, option_map}
+use Rattle.std.specs.Prelude.{◌≡◌, true, List, [], ℕ, Option, Some, length, option_map}
 use Rattle.odb_base.specs.Name.{IsName}
 use Rattle.library.specs.Masters.{master_at}
 use Rattle.library.specs.declared.master.Master.{Master}
@@ -37,6 +37,7 @@ inst_name = record {
 
 abbrev pub inst_laws : KindLaws InstEntry
 inst_laws = record {
+  built = true;
   Links = InstLinks;
   see = λ e. record { terminals = e.fields.terminals };
   none = record { terminals = [] };

@@ -1,5 +1,5 @@
 -- What a kind of objects states of its entries. Each kind's laws stand in a file of their own.
-use Rattle.std.specs.Prelude.{List, ℕ, Option}
+use Rattle.std.specs.Prelude.{Bool, List, ℕ, Option}
 use Rattle.block_records.specs.declared.header.Header.{Header}
 use Rattle.tech.specs.Technology.{Technology}
 use Rattle.library.specs.declared.master.Master.{Master}
@@ -12,6 +12,8 @@ pub record Parts : Type 0 where
   pub header : Header
 
 pub record KindLaws (Entry : Type 0) : Type 1 where
+  -- objects of the kind can be made; of a kind that is still to come there are none, and its table is empty
+  pub built : Bool
   -- what ties an object to others: the lists that it has and the objects that it names
   pub Links : Type 0
   pub see : Entry → Links

@@ -1,8 +1,9 @@
 -- Objects by their names, which are found by looking at each slot.
-use Rattle.std.specs.Prelude.{◌≡◌, ◌≢◌, Bool, false, List, ℕ, Option, None, Some, option_map}
+use Rattle.std.specs.Prelude.{◌≡◌, ◌≢◌, Bool, false, List, ℕ, Option, None, Some, IsTrue, option_map}
 use Rattle.std.specs.List.{position_from}
 use Rattle.std.specs.Str.{bytes_eq}
 use Rattle.slot_pool.specs.Table.{Table, record_at}
+use Rattle.odb_base.specs.Kind.{has_names}
 use Rattle.odb_base.specs.declared.codes.kind.Kind.{Kind}
 use Rattle.odb_base.specs.declared.codes.kind.Kind.TheVariants as kind
 use Rattle.block_store.specs.Block.{Block}
@@ -53,18 +54,7 @@ name_in kind.Prop id b = None
 
 -- objects of the kind have names
 abbrev pub HasNames : Kind → Type 0
-HasNames kind.Inst = Unit {0}
-HasNames kind.ITerm = ⊥
-HasNames kind.Net = Unit {0}
-HasNames kind.BTerm = Unit {0}
-HasNames kind.Pin = ⊥
-HasNames kind.Row = Unit {0}
-HasNames kind.Track = ⊥
-HasNames kind.Wire = ⊥
-HasNames kind.Blockage = ⊥
-HasNames kind.Region = Unit {0}
-HasNames kind.Group = Unit {0}
-HasNames kind.Prop = ⊥
+HasNames k = IsTrue (has_names k)
 
 -- no object of the kind has the name
 abbrev pub IsFree : Kind → List ℕ → Block → Type 0

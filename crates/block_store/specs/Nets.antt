@@ -1,6 +1,6 @@
 -- What a net states of itself.
 use Rattle.std.proofs.Common.{refl}
-use Rattle.std.specs.Prelude.{◌≡◌, List, [], ℕ, Some}
+use Rattle.std.specs.Prelude.{◌≡◌, true, List, [], ℕ, Some}
 use Rattle.odb_base.specs.Name.{IsName}
 use Rattle.block_store.specs.declared.entry.NetEntry.{NetEntry}
 use Rattle.block_store.specs.KindLaws.{KindLaws}
@@ -29,6 +29,7 @@ net_name = record {
 
 abbrev pub net_laws : KindLaws NetEntry
 net_laws = record {
+  built = true;
   Links = NetLinks;
   see = λ e. record { terms = e.terms };
   none = record { terms = [] };

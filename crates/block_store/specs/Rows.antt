@@ -1,6 +1,6 @@
 -- What a row of sites states of itself.
 use Rattle.std.proofs.Common.{refl}
-use Rattle.std.specs.Prelude.{◌≡◌, ◌≤◌, List, [], ℕ, ℤ, pos, Some, length}
+use Rattle.std.specs.Prelude.{◌≡◌, ◌≤◌, true, List, [], ℕ, ℤ, pos, Some, length}
 use Rattle.odb_base.specs.Geometry.{IsCoordinate}
 use Rattle.odb_base.specs.Name.{IsName}
 use Rattle.odb_base.specs.declared.codes.row_form.RowForm.{RowForm}
@@ -16,11 +16,11 @@ pub record IsSiteCount (n : ℕ) : Type 0 where
   pub some : 1 ≤ n
   pub few : n ≤ 1000000
 
--- how a site is repeated, as far as the row spells it out: without DO it stands once, and without STEP the steps are 0
-abbrev pub IsRepeated : RowForm → RowRec → Type 0
-IsRepeated form.Bare r = (r.nx ≡ 1) × (r.ny ≡ 1) × (r.sx ≡ pos 0) × (r.sy ≡ pos 0)
-IsRepeated form.Do r = (r.sx ≡ pos 0) × (r.sy ≡ pos 0)
-IsRepeated form.DoStep r = Unit {0}
+-- how often a site stands along x and along y, and at which steps, as far as the row spells it out: without DO it stands once, and without STEP the steps are 0
+abbrev pub IsRepeated : RowForm → ℕ → ℕ → ℤ → ℤ → Type 0
+IsRepeated form.Bare nx ny sx sy = (nx ≡ 1) × (ny ≡ 1) × (sx ≡ pos 0) × (sy ≡ pos 0)
+IsRepeated form.Do nx ny sx sy = (sx ≡ pos 0) × (sy ≡ pos 0)
+IsRepeated form.DoStep nx ny sx sy = Unit {0}
 
 -- the fields of a row: a lawful name, a site of the technology, and counts and steps within their limits
 pub record IsRowRec (tech : Technology) (r : RowRec) : Type 0 where
@@ -33,7 +33,7 @@ pub record IsRowRec (tech : Technology) (r : RowRec) : Type 0 where
   pub ny : IsSiteCount r.ny
   pub sx : IsCoordinate r.sx
   pub sy : IsCoordinate r.sy
-  pub repeated : IsRepeated r.form r
+  pub repeated : IsRepeated r.form r.nx r.ny r.sx r.sy
 
 pub record IsRow (tech : Technology) (e : RowEntry) : Type 0 where
   pub fields : IsRowRec tech e.fields
@@ -51,6 +51,7 @@ row_name = record {
 -- no object names a row, and a row has no list of objects yet
 abbrev pub row_laws : KindLaws RowEntry
 row_laws = record {
+  built = true;
   Links = Unit {0};
   see = λ e. tt;
   none = tt;

@@ -1,6 +1,6 @@
 -- When a block is sound with a technology and a library: its header, its tables with their records by themselves,
 -- and what ties the records to each other.
-use Rattle.std.specs.Prelude.{◌≡◌, List, ℕ, Option, Some, option_map}
+use Rattle.std.specs.Prelude.{◌≡◌, false, List, ℕ, Option, Some, option_map}
 use Rattle.std.specs.Option.{option_map_or}
 use Rattle.slot_pool.specs.Table.{Table, record_at}
 use Rattle.odb_base.specs.declared.codes.kind.Kind.{Kind}
@@ -9,7 +9,7 @@ use Rattle.tech.specs.Technology.{Technology}
 use Rattle.library.specs.Masters.{master_at}
 use Rattle.library.specs.Terminals.{HasDistinctTerminals}
 use Rattle.library.specs.declared.master.Master.{Master}
-use Rattle.block_store.specs.Block.{Block}
+use Rattle.block_store.specs.Block.{Block, empty_table}
 use Rattle.block_store.specs.KindLaws.{Parts}
 use Rattle.block_store.specs.Kinds.{Entry, table_of}
 use Rattle.block_store.specs.Lists.{list_in}
@@ -42,11 +42,13 @@ iterm_place b id = option_map (λ r. (r.inst, r.index)) (record_at b.iterm id)
 abbrev pub HasLawfulMasters : List Master → Type 0
 HasLawfulMasters library = (id : ℕ) (m : Master) → master_at library id ≡ Some m → HasDistinctTerminals m
 
--- The table of a kind is good and within the cap, each of its records is lawful, and no two have one name.
+-- The table of a kind is good and within the cap, each of its records is lawful, and no two have one name. That of a
+-- kind that is still to come is empty.
 pub record IsKind (parts : Parts) (cap : ℕ) (k : Kind) (t : Table (Entry k)) : Type 0 where
   pub table : IsTable cap t
   pub each : AreEach ((laws k).Is parts) t
   pub named : HasDistinctNames (laws k).name t
+  pub coming : (laws k).built ≡ false → t ≡ empty_table
 
 -- Records go together: lists hold just the objects that name theirs, and terminals stand at their places.
 pub record AreJoined (v : View) : Type 0 where

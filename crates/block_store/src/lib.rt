@@ -37,6 +37,7 @@ pub mod next;
 pub mod objects;
 pub mod records;
 pub mod tables;
+pub mod values;
 pub mod walk;
 
 pub use block::{Block, SLOT_LIMIT};
@@ -50,4 +51,5 @@ pub use list_of::ListOf;
 pub use live::Live;
 pub use names::Named;
 pub use tables::{PlainTable, Tables};
+pub use values::{SITE_LIMIT, is_bterm_direction, is_placement, is_row, is_site_count};
 pub use walk::Walk;

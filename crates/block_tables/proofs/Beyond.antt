@@ -9,6 +9,7 @@ use Rattle.block_store.specs.Block.{Block, slots_in}
 use Rattle.block_tables.specs.RuleBlockTerminals.{IsSoundBTerm}
 use Rattle.block_tables.specs.RuleInstances.{IsSoundInst}
 use Rattle.block_tables.specs.RuleNets.{IsSoundNet}
+use Rattle.block_tables.specs.RuleRows.{IsSoundRow}
 use Rattle.block_tables.specs.RuleTerminals.{IsSoundITerm}
 use Rattle.block_tables.specs.Rules.{IsSoundRecord}
 use Rattle.block_tables.proofs.Standings.{past_none}
@@ -28,25 +29,25 @@ module _ (tech : Technology) (library : List Master) (b : Block) where
   at_zero kind.ITerm id h = if_none (record_at b.iterm id) (λ r. IsSoundITerm b id r) (zero_none b.iterm id h)
   at_zero kind.Net id h = if_none (record_at b.net id) (λ e. IsSoundNet b id e) (zero_none b.net id h)
   at_zero kind.BTerm id h = if_none (record_at b.bterm id) (λ e. IsSoundBTerm b id e) (zero_none b.bterm id h)
-  at_zero kind.Pin id h = if_none (record_at b.pin id) (λ r. ⊥) (zero_none b.pin id h)
-  at_zero kind.Row id h = if_none (record_at b.row id) (λ r. ⊥) (zero_none b.row id h)
-  at_zero kind.Track id h = if_none (record_at b.track id) (λ r. ⊥) (zero_none b.track id h)
-  at_zero kind.Wire id h = if_none (record_at b.wire id) (λ r. ⊥) (zero_none b.wire id h)
-  at_zero kind.Blockage id h = if_none (record_at b.blockage id) (λ r. ⊥) (zero_none b.blockage id h)
-  at_zero kind.Region id h = if_none (record_at b.region id) (λ r. ⊥) (zero_none b.region id h)
-  at_zero kind.Group id h = if_none (record_at b.group id) (λ r. ⊥) (zero_none b.group id h)
-  at_zero kind.Prop id h = if_none (record_at b.prop id) (λ r. ⊥) (zero_none b.prop id h)
+  at_zero kind.Pin id h = tt
+  at_zero kind.Row id h = if_none (record_at b.row id) (λ e. IsSoundRow tech b id e) (zero_none b.row id h)
+  at_zero kind.Track id h = tt
+  at_zero kind.Wire id h = tt
+  at_zero kind.Blockage id h = tt
+  at_zero kind.Region id h = tt
+  at_zero kind.Group id h = tt
+  at_zero kind.Prop id h = tt
 
   pub past_slots : (k : Kind) (id : ℕ) → slots_in k b < id → IsSoundRecord tech library b k id
   past_slots kind.Inst id h = if_none (record_at b.inst id) (λ e. IsSoundInst library b id e) (past_none b.inst id h)
   past_slots kind.ITerm id h = if_none (record_at b.iterm id) (λ r. IsSoundITerm b id r) (past_none b.iterm id h)
   past_slots kind.Net id h = if_none (record_at b.net id) (λ e. IsSoundNet b id e) (past_none b.net id h)
   past_slots kind.BTerm id h = if_none (record_at b.bterm id) (λ e. IsSoundBTerm b id e) (past_none b.bterm id h)
-  past_slots kind.Pin id h = if_none (record_at b.pin id) (λ r. ⊥) (past_none b.pin id h)
-  past_slots kind.Row id h = if_none (record_at b.row id) (λ r. ⊥) (past_none b.row id h)
-  past_slots kind.Track id h = if_none (record_at b.track id) (λ r. ⊥) (past_none b.track id h)
-  past_slots kind.Wire id h = if_none (record_at b.wire id) (λ r. ⊥) (past_none b.wire id h)
-  past_slots kind.Blockage id h = if_none (record_at b.blockage id) (λ r. ⊥) (past_none b.blockage id h)
-  past_slots kind.Region id h = if_none (record_at b.region id) (λ r. ⊥) (past_none b.region id h)
-  past_slots kind.Group id h = if_none (record_at b.group id) (λ r. ⊥) (past_none b.group id h)
-  past_slots kind.Prop id h = if_none (record_at b.prop id) (λ r. ⊥) (past_none b.prop id h)
+  past_slots kind.Pin id h = tt
+  past_slots kind.Row id h = if_none (record_at b.row id) (λ e. IsSoundRow tech b id e) (past_none b.row id h)
+  past_slots kind.Track id h = tt
+  past_slots kind.Wire id h = tt
+  past_slots kind.Blockage id h = tt
+  past_slots kind.Region id h = tt
+  past_slots kind.Group id h = tt
+  past_slots kind.Prop id h = tt

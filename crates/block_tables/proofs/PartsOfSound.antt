@@ -12,6 +12,7 @@ use Rattle.tech.specs.Technology.{Technology}
 use Rattle.block_store.specs.declared.entry.BTermEntry.{BTermEntry}
 use Rattle.block_store.specs.declared.entry.InstEntry.{InstEntry}
 use Rattle.block_store.specs.declared.entry.NetEntry.{NetEntry}
+use Rattle.block_store.specs.declared.entry.RowEntry.{RowEntry}
 use Rattle.block_store.specs.Block.{Block}
 use Rattle.block_store.specs.Lists.{bterm_number, iterm_number, list_in}
 use Rattle.block_store.specs.Sound.{IsSound, bterm_net, inst_terms, iterm_net, iterm_place, net_terms}
@@ -21,6 +22,7 @@ use Rattle.block_tables.specs.Names.{IsAlone}
 use Rattle.block_tables.specs.RuleBlockTerminals.{IsSoundBTerm}
 use Rattle.block_tables.specs.RuleInstances.{IsSoundInst}
 use Rattle.block_tables.specs.RuleNets.{IsSoundNet, AreTerminals, term_net}
+use Rattle.block_tables.specs.RuleRows.{IsSoundRow}
 use Rattle.block_tables.specs.RuleTerminals.{IsSoundITerm}
 use Rattle.block_tables.specs.Rules.{IsSoundKind, IsSoundRecord}
 
@@ -83,6 +85,9 @@ module _ (tech : Technology) (library : List Master) (cap : ℕ) (b : Block) (s 
     joined = λ some. owned_once (times (bterm_number id) (net_terms b e.fields.net)) (bterm_net b id) e.fields.net (bterms_held tech library cap b s e.fields.net id (omega arith)) (ap (λ o. option_map_or (λ (e : BTermEntry). e.fields.net) o 0) at);
   }
 
+  sound_row : (id : ℕ) (e : RowEntry) → record_at b.row id ≡ Some e → IsSoundRow tech b id e
+  sound_row id e at = record { values = (s.kinds kind.Row).each id e at; alone = alone (λ (e : RowEntry). e.fields.name) b.row id e (s.kinds kind.Row).named at }
+
   -- the members of a net's list
   held_once : (id number : ℕ) → 1 ≤ id → 1 ≤ times number (net_terms b id) → (times number (net_terms b id) ≡ 1) × (term_net b number ≡ id)
   held_once id number some held = elim (cases_eq (number % 2) 0) [
@@ -111,11 +116,11 @@ module _ (tech : Technology) (library : List Master) (cap : ℕ) (b : Block) (s 
   sound_kind kind.ITerm = record { table = (s.kinds kind.ITerm).table; records = λ id. if_there (record_at b.iterm id) (λ r. IsSoundITerm b id r) (sound_iterm id) }
   sound_kind kind.Net = record { table = (s.kinds kind.Net).table; records = λ id. if_there (record_at b.net id) (λ e. IsSoundNet b id e) (sound_net id) }
   sound_kind kind.BTerm = record { table = (s.kinds kind.BTerm).table; records = λ id. if_there (record_at b.bterm id) (λ e. IsSoundBTerm b id e) (sound_bterm id) }
-  sound_kind kind.Pin = record { table = (s.kinds kind.Pin).table; records = λ id. if_there (record_at b.pin id) (λ r. ⊥) ((s.kinds kind.Pin).each id) }
-  sound_kind kind.Row = record { table = (s.kinds kind.Row).table; records = λ id. if_there (record_at b.row id) (λ r. ⊥) ((s.kinds kind.Row).each id) }
-  sound_kind kind.Track = record { table = (s.kinds kind.Track).table; records = λ id. if_there (record_at b.track id) (λ r. ⊥) ((s.kinds kind.Track).each id) }
-  sound_kind kind.Wire = record { table = (s.kinds kind.Wire).table; records = λ id. if_there (record_at b.wire id) (λ r. ⊥) ((s.kinds kind.Wire).each id) }
-  sound_kind kind.Blockage = record { table = (s.kinds kind.Blockage).table; records = λ id. if_there (record_at b.blockage id) (λ r. ⊥) ((s.kinds kind.Blockage).each id) }
-  sound_kind kind.Region = record { table = (s.kinds kind.Region).table; records = λ id. if_there (record_at b.region id) (λ r. ⊥) ((s.kinds kind.Region).each id) }
-  sound_kind kind.Group = record { table = (s.kinds kind.Group).table; records = λ id. if_there (record_at b.group id) (λ r. ⊥) ((s.kinds kind.Group).each id) }
-  sound_kind kind.Prop = record { table = (s.kinds kind.Prop).table; records = λ id. if_there (record_at b.prop id) (λ r. ⊥) ((s.kinds kind.Prop).each id) }
+  sound_kind kind.Pin = record { table = (s.kinds kind.Pin).coming refl; records = λ id. tt }
+  sound_kind kind.Row = record { table = (s.kinds kind.Row).table; records = λ id. if_there (record_at b.row id) (λ e. IsSoundRow tech b id e) (sound_row id) }
+  sound_kind kind.Track = record { table = (s.kinds kind.Track).coming refl; records = λ id. tt }
+  sound_kind kind.Wire = record { table = (s.kinds kind.Wire).coming refl; records = λ id. tt }
+  sound_kind kind.Blockage = record { table = (s.kinds kind.Blockage).coming refl; records = λ id. tt }
+  sound_kind kind.Region = record { table = (s.kinds kind.Region).coming refl; records = λ id. tt }
+  sound_kind kind.Group = record { table = (s.kinds kind.Group).coming refl; records = λ id. tt }
+  sound_kind kind.Prop = record { table = (s.kinds kind.Prop).coming refl; records = λ id. tt }

@@ -1,7 +1,7 @@
 -- A block is sound whose parts are.
 use Rattle.std.proofs.Common.{◌≡◌, ◌≢◌, ◌+◌, ◌*◌, ◌<◌, ◌≤◌, ◌==◌, true, false, eqb, List, ℕ, Option, Some, None, IfSome, slice_get, refl, sym, ap, ◌∙◌, subst, inl, inr, arith}
 use Rattle.std.specs.Option.{option_map, option_map_or}
-use Rattle.std.proofs.lemmas.Bool.{cases_Bool, cases_lt, eqb-true, eqb-false}
+use Rattle.std.proofs.lemmas.Bool.{cases_Bool, cases_lt, eqb-true, eqb-false, false≢true}
 use Rattle.std.proofs.lemmas.Bool.Decides.{nat_tests}
 use Rattle.odb_base.specs.declared.codes.kind.Kind.{Kind}
 use Rattle.odb_base.specs.declared.codes.kind.Kind.TheVariants as kind
@@ -12,6 +12,7 @@ use Rattle.tech.specs.Technology.{Technology}
 use Rattle.block_store.specs.declared.entry.BTermEntry.{BTermEntry}
 use Rattle.block_store.specs.declared.entry.InstEntry.{InstEntry}
 use Rattle.block_store.specs.declared.entry.NetEntry.{NetEntry}
+use Rattle.block_store.specs.declared.entry.RowEntry.{RowEntry}
 use Rattle.block_store.specs.Block.{Block}
 use Rattle.block_store.specs.Kinds.{table_of}
 use Rattle.block_store.specs.Lists.{bterm_number, iterm_number, list_in}
@@ -21,12 +22,14 @@ use Rattle.block_store.specs.Sound.{IsKind, IsSound, bterm_net, inst_terms, iter
 use Rattle.block_store.specs.Tables.{AreEach, AreNamed}
 use Rattle.block_store.specs.TermPlaces.{ArePlaced, place_of, terminals_of}
 use Rattle.block_store.specs.View.{view}
+use Rattle.block_store.proofs.Changed.{kind_coming}
 use Rattle.block_store.proofs.Held.{held_stands, placed_stands}
 use Rattle.block_store.proofs.Joined.{bterm_seen, iterm_seen, place_seen, terminals_seen, terms_seen}
 use Rattle.block_tables.specs.Names.{IsAlone}
 use Rattle.block_tables.specs.RuleBlockTerminals.{IsSoundBTerm}
 use Rattle.block_tables.specs.RuleInstances.{IsSoundInst}
 use Rattle.block_tables.specs.RuleNets.{IsSoundNet, term_net}
+use Rattle.block_tables.specs.RuleRows.{IsSoundRow}
 use Rattle.block_tables.specs.RuleTerminals.{IsSoundITerm}
 use Rattle.block_tables.specs.Rules.{AreSoundParts, IsSoundKind, IsSoundRecord}
 use Rattle.block_tables.proofs.PartsOfSound.{term_net-even, term_net-odd}
@@ -79,6 +82,9 @@ module _ (tech : Technology) (library : List Master) (cap : ℕ) (b : Block) (pa
   bterm : (id : ℕ) (e : BTermEntry) → record_at b.bterm id ≡ Some e → IsSoundBTerm b id e
   bterm id e at = there (record_at b.bterm id) (λ e. IsSoundBTerm b id e) e ((parts.kinds kind.BTerm).records id) at
 
+  row : (id : ℕ) (e : RowEntry) → record_at b.row id ≡ Some e → IsSoundRow tech b id e
+  row id e at = there (record_at b.row id) (λ e. IsSoundRow tech b id e) e ((parts.kinds kind.Row).records id) at
+
   -- what stands in the list of a net stands there once and names it
   member : (id number : ℕ) → 1 ≤ times number (net_terms b id) → (times number (net_terms b id) ≡ 1) × (term_net b number ≡ id)
   member id number held =
@@ -128,23 +134,19 @@ module _ (tech : Technology) (library : List Master) (cap : ℕ) (b : Block) (pa
   placed : ArePlaced (inst_terms b) (iterm_place b)
   placed id place part = (stands id place part, names id place part)
 
-  -- of a kind that is still to come there is no record
-  none_yet : {A : Type 0} (t : Table A) → ((id : ℕ) → IfSome (record_at t id) (λ x. ⊥)) → AreEach (λ x. ⊥) t
-  none_yet t none = λ id x at. there (record_at t id) (λ x. ⊥) x (none id) at
-
   kinds : (k : Kind) → IsKind (record { tech = tech; library = library; header = b.header }) cap k (table_of k b)
-  kinds kind.Inst = record { table = (parts.kinds kind.Inst).table; each = λ id e at. (inst id e at).values; named = are_named (λ (e : InstEntry). e.fields.name) b.inst (λ id e at. (inst id e at).alone) }
-  kinds kind.ITerm = record { table = (parts.kinds kind.ITerm).table; each = λ id r at. tt; named = tt }
-  kinds kind.Net = record { table = (parts.kinds kind.Net).table; each = λ id e at. (net id e at).values; named = are_named (λ (e : NetEntry). e.fields.name) b.net (λ id e at. (net id e at).alone) }
-  kinds kind.BTerm = record { table = (parts.kinds kind.BTerm).table; each = λ id e at. (bterm id e at).values; named = are_named (λ (e : BTermEntry). e.fields.name) b.bterm (λ id e at. (bterm id e at).alone) }
-  kinds kind.Pin = record { table = (parts.kinds kind.Pin).table; each = none_yet b.pin (parts.kinds kind.Pin).records; named = tt }
-  kinds kind.Row = record { table = (parts.kinds kind.Row).table; each = none_yet b.row (parts.kinds kind.Row).records; named = are_named (λ e. e.fields.name) b.row (λ id e at. absurd (none_yet b.row (parts.kinds kind.Row).records id e at)) }
-  kinds kind.Track = record { table = (parts.kinds kind.Track).table; each = none_yet b.track (parts.kinds kind.Track).records; named = tt }
-  kinds kind.Wire = record { table = (parts.kinds kind.Wire).table; each = none_yet b.wire (parts.kinds kind.Wire).records; named = tt }
-  kinds kind.Blockage = record { table = (parts.kinds kind.Blockage).table; each = none_yet b.blockage (parts.kinds kind.Blockage).records; named = tt }
-  kinds kind.Region = record { table = (parts.kinds kind.Region).table; each = none_yet b.region (parts.kinds kind.Region).records; named = are_named (λ e. e.fields.name) b.region (λ id e at. absurd (none_yet b.region (parts.kinds kind.Region).records id e at)) }
-  kinds kind.Group = record { table = (parts.kinds kind.Group).table; each = none_yet b.group (parts.kinds kind.Group).records; named = are_named (λ e. e.fields.name) b.group (λ id e at. absurd (none_yet b.group (parts.kinds kind.Group).records id e at)) }
-  kinds kind.Prop = record { table = (parts.kinds kind.Prop).table; each = none_yet b.prop (parts.kinds kind.Prop).records; named = tt }
+  kinds kind.Inst = record { table = (parts.kinds kind.Inst).table; each = λ id e at. (inst id e at).values; named = are_named (λ (e : InstEntry). e.fields.name) b.inst (λ id e at. (inst id e at).alone); coming = λ unbuilt. absurd (false≢true (sym unbuilt)) }
+  kinds kind.ITerm = record { table = (parts.kinds kind.ITerm).table; each = λ id r at. tt; named = tt; coming = λ unbuilt. absurd (false≢true (sym unbuilt)) }
+  kinds kind.Net = record { table = (parts.kinds kind.Net).table; each = λ id e at. (net id e at).values; named = are_named (λ (e : NetEntry). e.fields.name) b.net (λ id e at. (net id e at).alone); coming = λ unbuilt. absurd (false≢true (sym unbuilt)) }
+  kinds kind.BTerm = record { table = (parts.kinds kind.BTerm).table; each = λ id e at. (bterm id e at).values; named = are_named (λ (e : BTermEntry). e.fields.name) b.bterm (λ id e at. (bterm id e at).alone); coming = λ unbuilt. absurd (false≢true (sym unbuilt)) }
+  kinds kind.Pin = kind_coming (record { tech = tech; library = library; header = b.header }) cap kind.Pin b.pin (parts.kinds kind.Pin).table
+  kinds kind.Row = record { table = (parts.kinds kind.Row).table; each = λ id e at. (row id e at).values; named = are_named (λ (e : RowEntry). e.fields.name) b.row (λ id e at. (row id e at).alone); coming = λ unbuilt. absurd (false≢true (sym unbuilt)) }
+  kinds kind.Track = kind_coming (record { tech = tech; library = library; header = b.header }) cap kind.Track b.track (parts.kinds kind.Track).table
+  kinds kind.Wire = kind_coming (record { tech = tech; library = library; header = b.header }) cap kind.Wire b.wire (parts.kinds kind.Wire).table
+  kinds kind.Blockage = kind_coming (record { tech = tech; library = library; header = b.header }) cap kind.Blockage b.blockage (parts.kinds kind.Blockage).table
+  kinds kind.Region = kind_coming (record { tech = tech; library = library; header = b.header }) cap kind.Region b.region (parts.kinds kind.Region).table
+  kinds kind.Group = kind_coming (record { tech = tech; library = library; header = b.header }) cap kind.Group b.group (parts.kinds kind.Group).table
+  kinds kind.Prop = kind_coming (record { tech = tech; library = library; header = b.header }) cap kind.Prop b.prop (parts.kinds kind.Prop).table
 
   held_in : (s : Sort) → IsHeld s (view b)
   held_in ITermsOfNet = held_stands (net_terms b) (list_of ITermsOfNet (view b)) iterm_number (iterm_net b) (owner_of ITermsOfNet (view b)) (terms_seen b) (iterm_seen b) iterms_held

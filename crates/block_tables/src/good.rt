@@ -49,7 +49,7 @@ fn are_free_once<T>(slots: &[Option<T>], counts: &[u8]) -> bool
     true
 }
 
-// Whether the table of a kind is good.
+// Whether the table of a kind is good, or empty if the kind is still to come.
 pub(crate) fn is_sound_table(alloc: Global, tables: &Tables, kind: Kind) -> Result<bool, AllocError>
     requires { slots_in kind tables.now ≤ 16777215 }
     ensures { IfOk result (λ sound. (cap : ℕ) → slots_in kind tables.now ≤ cap → (IsTrue sound ↔ IsSoundTable cap tables.now kind)) }
@@ -59,13 +59,13 @@ pub(crate) fn is_sound_table(alloc: Global, tables: &Tables, kind: Kind) -> Resu
         Kind::ITerm => is_table(alloc, &tables.iterm),
         Kind::Net => is_table(alloc, &tables.net),
         Kind::BTerm => is_table(alloc, &tables.bterm),
-        Kind::Pin => is_table(alloc, &tables.pin),
+        Kind::Pin => Ok(tables.pin.is_empty()),
         Kind::Row => is_table(alloc, &tables.row),
-        Kind::Track => is_table(alloc, &tables.track),
-        Kind::Wire => is_table(alloc, &tables.wire),
-        Kind::Blockage => is_table(alloc, &tables.blockage),
-        Kind::Region => is_table(alloc, &tables.region),
-        Kind::Group => is_table(alloc, &tables.group),
-        Kind::Prop => is_table(alloc, &tables.prop),
+        Kind::Track => Ok(tables.track.is_empty()),
+        Kind::Wire => Ok(tables.wire.is_empty()),
+        Kind::Blockage => Ok(tables.blockage.is_empty()),
+        Kind::Region => Ok(tables.region.is_empty()),
+        Kind::Group => Ok(tables.group.is_empty()),
+        Kind::Prop => Ok(tables.prop.is_empty()),
     }
 }

@@ -1,4 +1,4 @@
-ghost use Rattle.std.specs.Prelude.{◌≡◌, ◌≢◌, ◌↔◌, ◌+◌, ◌<◌, ◌≤◌, ℕ, IfNone, IfOk, IfSome, IsTrue, OnOk, None, Some, option_copied};
+ghost use Rattle.std.specs.Prelude.{◌≡◌, ◌≢◌, ◌↔◌, ◌+◌, ◌<◌, ◌≤◌, ℕ, IfNone, IfOk, IfSome, IsTrue, OnOk, None, Some};
 ghost use Rattle.slot_pool.specs.Table.{record_at, times};
 ghost use Rattle.block_store.specs.Block.{slots_in};
 ghost use Rattle.block_store.specs.Nets.{IsNet};
@@ -13,7 +13,7 @@ use crate::names::{holders_of, is_alone};
 use crate::nets::are_terminals;
 use crate::standing::standing;
 use crate::terminals::{is_counted, stands_at};
-use crate::values::{is_bterm, is_inst, is_net};
+use crate::values::{is_bterm, is_inst, is_net, is_row_entry};
 use block_store::{NetEntry, Tables};
 use library::Library;
 use odb_base::Kind;
@@ -29,6 +29,7 @@ pub(crate) struct Judge<'a> {
     pub insts: Holders<'a>,
     pub nets: Holders<'a>,
     pub bterms: Holders<'a>,
+    pub rows: Holders<'a>,
     pub standing: Vec<u8>,
 }
 
@@ -57,6 +58,7 @@ impl<'a> Judge<'a> {
             insts: holders_of(alloc, tables.inst.slots())?,
             nets: holders_of(alloc, tables.net.slots())?,
             bterms: holders_of(alloc, tables.bterm.slots())?,
+            rows: holders_of(alloc, tables.row.slots())?,
             standing: standing(alloc, tables)?,
         })
     }
@@ -85,20 +87,19 @@ impl<'a> Judge<'a> {
         requires { IsPrepared self.now }
         ensures { IsTrue result ↔ IsSoundRecord self.now.tech.now self.now.library.now self.now.tables.now kind id }
     {
-        let tables = self.tables;
         match kind {
             Kind::Inst => self.is_sound_inst(id),
             Kind::ITerm => self.is_sound_iterm(id),
             Kind::Net => self.is_sound_net(id),
             Kind::BTerm => self.is_sound_bterm(id),
-            Kind::Pin => is_empty(tables.pin.get(id)),
-            Kind::Row => is_empty(tables.row.get(id)),
-            Kind::Track => is_empty(tables.track.get(id)),
-            Kind::Wire => is_empty(tables.wire.get(id)),
-            Kind::Blockage => is_empty(tables.blockage.get(id)),
-            Kind::Region => is_empty(tables.region.get(id)),
-            Kind::Group => is_empty(tables.group.get(id)),
-            Kind::Prop => is_empty(tables.prop.get(id)),
+            Kind::Row => self.is_sound_row(id),
+            Kind::Pin
+            | Kind::Track
+            | Kind::Wire
+            | Kind::Blockage
+            | Kind::Region
+            | Kind::Group
+            | Kind::Prop => true,
         }
     }
 
@@ -167,6 +168,19 @@ impl<'a> Judge<'a> {
         lawful && alone && joined
     }
 
+    fn is_sound_row(&self, id: u32) -> bool
+        requires { IsPrepared self.now }
+        ensures { IsTrue result ↔ IsSoundRecord self.now.tech.now self.now.library.now self.now.tables.now Kind.Row id }
+    {
+        let tables = self.tables;
+        let Some(row) = tables.row.get(id) else {
+            return true;
+        };
+        let lawful = is_row_entry(self.tech, row);
+        let alone = is_alone(&self.rows, &tables.row, id);
+        lawful && alone
+    }
+
     // Whether the net that a terminal names, if it names one, has it among its terminals.
     fn is_joined(&self, number: usize, net: u32) -> bool
         requires prepared { IsPrepared self.now }
@@ -175,11 +189,4 @@ impl<'a> Judge<'a> {
     {
         net == 0 || is_counted(&self.standing, number)
     }
-}
-
-// Whether a slot has no record: of a kind that is still to come there is none.
-fn is_empty<T>(slot: Option<&T>) -> bool
-    ensures { IsTrue result ↔ IfSome (option_copied slot.entry) (λ x. ⊥) }
-{
-    slot.is_none()
 }

@@ -1,15 +1,17 @@
 ghost use Rattle.std.specs.Prelude.{◌≡◌, ◌↔◌, [], IsTrue, codes, length};
-ghost use Rattle.odb_base.specs.Geometry.{IsCoordinate};
 ghost use Rattle.block_records.specs.Header.{new_header};
-ghost use Rattle.block_store.specs.BlockTerminals.{IsBTerm, IsBTermDirection};
+ghost use Rattle.block_store.specs.BlockTerminals.{IsBTerm};
 ghost use Rattle.block_store.specs.Instances.{IsInst, term_count};
 ghost use Rattle.block_store.specs.Nets.{IsNet};
-ghost use Rattle.block_store.specs.Placements.{IsPlacement, unplaced};
+ghost use Rattle.block_store.specs.Rows.{IsRow};
 
 use block_records::Header;
-use block_store::{BTermEntry, InstEntry, NetEntry};
+use block_store::{
+    BTermEntry, InstEntry, NetEntry, RowEntry, is_bterm_direction, is_placement, is_row,
+};
 use library::Library;
-use odb_base::{COORDINATE_LIMIT, Direction, MasterId, PlaceStatus, Placement, Text};
+use odb_base::{MasterId, Text};
+use tech::Tech;
 
 // Whether the values of an instance are lawful, and it has a terminal for each of its master's.
 pub(crate) fn is_inst(library: &Library, inst: &InstEntry) -> bool
@@ -19,7 +21,7 @@ pub(crate) fn is_inst(library: &Library, inst: &InstEntry) -> bool
     let bare = inst.fields.group == 0
         && inst.fields.kept.bytes().is_empty()
         && inst.props.items().is_empty();
-    let placed = is_placement(&inst.fields.place);
+    let placed = is_placement(inst.fields.place);
     let fitted = is_fitted(library, inst);
     bare && placed && fitted
 }
@@ -31,31 +33,6 @@ fn is_fitted(library: &Library, inst: &InstEntry) -> bool
         Some(master) => master.terminals.items().len() == inst.fields.terminals.items().len(),
         None => false,
     }
-}
-
-// Whether the coordinates are within their limit, and an object without a place stands at 0, 0 and is turned N.
-fn is_placement(place: &Placement) -> bool
-    ensures { IsTrue result ↔ IsPlacement place.now }
-{
-    let x = is_coordinate(place.x);
-    let y = is_coordinate(place.y);
-    let rests = rests(place);
-    x && y && rests
-}
-
-fn rests(place: &Placement) -> bool
-    ensures { IsTrue result ↔ (place.now.status ≡ PlaceStatus.Unplaced → place.now ≡ unplaced) }
-{
-    match place.status {
-        PlaceStatus::Unplaced => *place == Placement::UNPLACED,
-        PlaceStatus::Placed | PlaceStatus::Fixed | PlaceStatus::Cover => true,
-    }
-}
-
-fn is_coordinate(n: i32) -> bool
-    ensures { IsTrue result ↔ IsCoordinate n }
-{
-    n.unsigned_abs() <= COORDINATE_LIMIT
 }
 
 // Whether the values of a net are lawful.
@@ -78,17 +55,13 @@ pub(crate) fn is_bterm(bterm: &BTermEntry) -> bool
     directed && bare
 }
 
-fn is_bterm_direction(direction: Direction) -> bool
-    ensures { IsTrue result ↔ IsBTermDirection direction }
+// Whether the values of a row are lawful.
+pub(crate) fn is_row_entry(tech: &Tech, row: &RowEntry) -> bool
+    ensures { IsTrue result ↔ IsRow tech.now row.now }
 {
-    match direction {
-        Direction::Tristate => false,
-        Direction::None
-        | Direction::Input
-        | Direction::Output
-        | Direction::Inout
-        | Direction::Feedthru => true,
-    }
+    let lawful = is_row(tech, &row.fields);
+    let bare = row.props.items().is_empty();
+    lawful && bare
 }
 
 // Whether the header is that of a new block.

@@ -9,6 +9,7 @@ abbrev pub tag_of : Step → Tag
 tag_of (step.NewInst id name master terminals) = tag.NewInst id master
 tag_of (step.NewNet id name) = tag.NewNet id
 tag_of (step.NewBTerm id name) = tag.NewBTerm id
+tag_of (step.NewRow id row) = tag.NewRow id
 tag_of (step.Del kind id) = tag.Del kind id
 tag_of (step.Rename kind id name) = tag.Rename kind id
 tag_of (step.Swap inst master) = tag.Swap inst

@@ -18,6 +18,15 @@ pub enum Edit {
         name: Text,
         net: Option<u32>,
     },
+    /// A new row of sites of this name, in database units.
+    NewRow {
+        name: Text,
+        site: Text,
+        x: i64,
+        y: i64,
+        orientation: Orient,
+        sites: RowSites,
+    },
     /// An object goes, and first what hangs on it.
     Destroy {
         kind: Kind,
@@ -69,4 +78,15 @@ pub enum Edit {
         kind: Kind,
         id: u32,
     },
+}
+
+/// How often the site of a new row is repeated, as far as that is spelled out.
+#[derive(Clone, Copy, Debug, PartialEq, Eq)]
+pub enum RowSites {
+    /// One site.
+    One,
+    /// So many along x and along y, side by side.
+    Counted { nx: i64, ny: i64 },
+    /// So many along x and along y, at these steps in database units.
+    Stepped { nx: i64, ny: i64, sx: i64, sy: i64 },
 }

@@ -14,7 +14,7 @@ pub mod refusal;
 pub mod step;
 pub mod tag;
 
-pub use edit::Edit;
+pub use edit::{Edit, RowSites};
 pub use memo::Memo;
 pub use part::TechPart;
 pub use refusal::Refusal;

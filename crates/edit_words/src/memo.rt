@@ -9,8 +9,9 @@ pub enum Memo {
     /// Of a new object: whether its slot was added to its table, and how many slots were added to the table of
     /// instance terminals.
     Grown { object: bool, terminals: u32 },
-    /// The record of an object that went.
-    Record(Record),
+    /// The record of an object that went, and the member that stood after it in the list that it left, or none
+    /// where it was the last or stood in no list.
+    Record { record: Record, next: Option<u32> },
     /// The name that an object had.
     Name(Name),
     /// The master that an instance had, and its terminals in the order of that master.

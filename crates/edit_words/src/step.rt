@@ -2,7 +2,7 @@ ghost use Rattle.std.specs.Prelude.{◌≡◌, IfOk};
 ghost use Rattle.edit_words.specs.Tag.{tag_of};
 
 use crate::tag::Tag;
-use block_records::Terminals;
+use block_records::{RowRec, Terminals};
 use odb_base::{Direction, Kind, Name, Placement, Usage};
 use std::alloc::AllocError;
 
@@ -26,6 +26,11 @@ pub enum Step {
     NewBTerm {
         id: u32,
         name: Name,
+    },
+    /// A row of sites, without properties.
+    NewRow {
+        id: u32,
+        row: RowRec,
     },
     /// An object goes on which nothing hangs; an instance with its terminals, which are given back from the
     /// last to the first.
@@ -92,6 +97,7 @@ impl Step {
             },
             Step::NewNet { id, .. } => Tag::NewNet { id: *id },
             Step::NewBTerm { id, .. } => Tag::NewBTerm { id: *id },
+            Step::NewRow { id, .. } => Tag::NewRow { id: *id },
             Step::Del { kind, id } => Tag::Del {
                 kind: *kind,
                 id: *id,
@@ -147,6 +153,10 @@ impl Step {
             Step::NewBTerm { id, name } => Ok(Step::NewBTerm {
                 id: *id,
                 name: name.try_clone()?,
+            }),
+            Step::NewRow { id, row } => Ok(Step::NewRow {
+                id: *id,
+                row: row.try_clone()?,
             }),
             Step::Rename { kind, id, name } => Ok(Step::Rename {
                 kind: *kind,

@@ -7,6 +7,7 @@ pub enum Tag {
     NewInst { id: u32, master: u32 },
     NewNet { id: u32 },
     NewBTerm { id: u32 },
+    NewRow { id: u32 },
     Del { kind: Kind, id: u32 },
     Rename { kind: Kind, id: u32 },
     Swap { inst: u32 },

@@ -273,7 +273,7 @@ module _ (tech : Technology) (library : List Master) (cap : ℕ) where
   destroyed d kind.Net id steps sound live h = subst (CanAll tech library cap d) (same_ok _ steps h) (net_goes id (net_terms d id) d sound live refl)
   destroyed d kind.BTerm id steps sound live h = subst (CanAll tech library cap d) (same_ok _ steps h) (bterm_goes d id live)
   destroyed d kind.Pin id steps sound live h = absurd (none_live d.pin id (sound.kinds kind.Pin).each live)
-  destroyed d kind.Row id steps sound live h = absurd (none_live d.row id (sound.kinds kind.Row).each live)
+  destroyed d kind.Row id steps sound live h = subst (CanAll tech library cap d) (same_ok _ steps h) (live, refl, tt)
   destroyed d kind.Track id steps sound live h = absurd (none_live d.track id (sound.kinds kind.Track).each live)
   destroyed d kind.Wire id steps sound live h = absurd (none_live d.wire id (sound.kinds kind.Wire).each live)
   destroyed d kind.Blockage id steps sound live h = absurd (none_live d.blockage id (sound.kinds kind.Blockage).each live)

@@ -2,13 +2,13 @@
 use Rattle.std.proofs.Common.{◌≡◌, ◌<◌, ◌≤◌, ◌&&◌, true, ℤ, pos, negsuc, refl, ap, ◌∙◌, arith}
 use Rattle.std.proofs.lemmas.Bool.{and_parts, eqb-true, false≢true, leb-true, ltb-true}
 use Rattle.std.proofs.lemmas.Int.{ints}
-use Rattle.odb_base.specs.Geometry.{IsCoordinate}
+use Rattle.odb_base.specs.Geometry.{IsCoordinate, is_coordinate}
 use Rattle.odb_base.specs.declared.codes.orient.Orient.{Orient}
 use Rattle.odb_base.specs.declared.codes.orient.Orient.TheVariants as orient
 use Rattle.odb_base.specs.declared.codes.place_status.PlaceStatus.{PlaceStatus}
 use Rattle.odb_base.specs.declared.codes.place_status.PlaceStatus.TheVariants as status
 use Rattle.block_store.specs.Placements.{IsPlacement, unplaced}
-use Rattle.edits.specs.Plan.{fits_status, is_coordinate, is_north, is_zero}
+use Rattle.edits.specs.Plan.{fits_status, is_north, is_zero}
 
 pub lawful_coordinate : (n : ℤ) → is_coordinate n ≡ true → IsCoordinate n
 lawful_coordinate (pos n) h =

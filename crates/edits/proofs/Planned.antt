@@ -1,9 +1,11 @@
 -- Every plan is a list of steps that can be done one after the other, and for which the tables have room.
-use Rattle.std.proofs.Common.{◌≡◌, ◌≢◌, true, false, List, [], ◌∷◌, ℕ, ℤ, Option, Some, None, Result, Ok, Err, IfOk, Vec, length, not, refl, sym, ap, subst, ◌∙◌}
+use Rattle.std.proofs.Common.{◌≡◌, ◌≢◌, ◌-◌, ◌≤◌, arith, true, false, List, [], ◌∷◌, ℕ, ℤ, Option, Some, None, Result, Ok, Err, IfOk, Vec, length, not, refl, sym, ap, subst, ◌∙◌}
 use Rattle.std.specs.Option.{option_and_then, option_map, unwrap_or}
 use Rattle.std.proofs.lemmas.Bool.{false≢true}
 use Rattle.slot_pool.specs.Table.{is_live, record_at}
 use Rattle.odb_base.specs.Name.{name_fault}
+use Rattle.odb_base.specs.Geometry.{is_coordinate}
+use Rattle.odb_base.specs.Kind.{has_names, has_place, has_usage, is_terminal}
 use Rattle.odb_base.specs.declared.codes.direction.Direction.{Direction}
 use Rattle.odb_base.specs.declared.codes.direction.Direction.TheVariants as direction
 use Rattle.odb_base.specs.declared.codes.kind.Kind.{Kind}
@@ -11,12 +13,15 @@ use Rattle.odb_base.specs.declared.codes.kind.Kind.TheVariants as kind
 use Rattle.odb_base.specs.declared.codes.orient.Orient.{Orient}
 use Rattle.odb_base.specs.declared.codes.place_status.PlaceStatus.{PlaceStatus}
 use Rattle.odb_base.specs.declared.codes.usage.Usage.{Usage}
-use Rattle.tech.specs.Technology.{Technology}
+use Rattle.tech.specs.Technology.{Technology, find_site, site_at}
+use Rattle.tech.specs.declared.site.Site.{Site}
 use Rattle.library.specs.Masters.{find_master, master_at}
 use Rattle.library.specs.declared.master.Master.{Master}
-use Rattle.named_list.proofs.Ids.{found_are_named}
+use Rattle.named_list.proofs.Ids.{found_are_named, placed}
+use Rattle.std.proofs.lemmas.Option.{slice_get_within}
 use Rattle.edit_words.specs.declared.edit.Edit.{Edit}
 use Rattle.edit_words.specs.declared.edit.Edit.TheVariants as edit
+use Rattle.edit_words.specs.declared.edit.RowSites.{RowSites}
 use Rattle.edit_words.specs.declared.refusal.Refusal.{Refusal}
 use Rattle.edit_words.specs.declared.refusal.Refusal.TheVariants as refusal
 use Rattle.edit_words.specs.declared.step.Step.{Step}
@@ -36,13 +41,14 @@ use Rattle.steps_net.specs.Can.{Can, CanName, inst_master}
 use Rattle.steps_net.specs.Do.{do_step, fresh_bterm}
 use Rattle.steps_net.specs.Room.{lacks}
 use Rattle.edits.specs.Checks.{allowed, holds_or, lawful, live, nothing_lacks, some_or, unheld}
-use Rattle.edits.specs.Plan.{CanAll, coordinate, differing, first_differing, fits_status, given_net, has_names, has_place, has_usage, is_bterm_direction, is_coordinate, is_terminal, joined, joined_to, new_inst_of, next_ids, one, plan, plan_destroyed, plan_join, plan_make_special, plan_new_bterm, plan_new_inst, plan_new_net, plan_part, plan_place, plan_rename, plan_set_dir, plan_set_use, plan_swap, same_terms, unjoined}
+use Rattle.edits.specs.Plan.{CanAll, coordinate, differing, first_differing, fits_status, given_net, is_bterm_direction, joined, joined_to, new_inst_of, next_ids, one, plan, plan_destroyed, plan_join, plan_make_special, plan_new_bterm, plan_new_inst, plan_new_net, plan_new_row, plan_part, plan_place, plan_rename, plan_set_dir, plan_set_use, plan_swap, repeat_of, row_of, same_terms, unjoined}
 use Rattle.edits.specs.Planning.{IsPlanned}
 use Rattle.edits.proofs.Destroying.{destroyed}
 use Rattle.edits.proofs.Ids.{count_next_ids, next_ids_are_next}
 use Rattle.edits.proofs.Placing.{lawful_placement}
+use Rattle.edits.proofs.Rows.{passed_coordinate, passed_repeat}
 use Rattle.edits.proofs.Terminals.{same_names}
-use Rattle.edits.proofs.Questions.{alike, enough, faultless, held, joined_net, named_kind, parted_net, placed_kind, plain_net, same_ok, tested, there, unfound, used_kind, went_on}
+use Rattle.edits.proofs.Questions.{alike, enough, faultless, held, joined_net, parted_net, plain_net, same_ok, tested, there, unfound, went_on}
 
 -- a name that no object of the kind has
 is_free : (k : Kind) (b : Block) (name : List ℕ) (u : Unit {0}) → unheld b k name ≡ Ok u → IsFree k name b
@@ -61,7 +67,7 @@ module _ (tech : Technology) (library : List Master) (cap : ℕ) (b : Block) whe
       let new = went_on (unheld b k name) _ steps good.rest in
       can_one (step.Rename k id name) steps
       (record {
-        kind = named_kind k (held (has_names k) (refusal.BadValue 1) named.value named.is);
+        kind = held (has_names k) (refusal.BadValue 1) named.value named.is;
         live = held (live_in k id b) (refusal.NotLive k id) there.value there.is;
         lawful = faultless (name_fault name) 3 good.value good.is;
         free = is_free k b name new.value new.is;
@@ -79,7 +85,7 @@ module _ (tech : Technology) (library : List Master) (cap : ℕ) (b : Block) whe
       let y_is = tested (is_coordinate y) y along_y.value (refusal.BadValue 5) along_y.is in
       can_one (step.Place k id (record { status = state; x = x; y = y; orientation = orientation })) steps
       (record {
-        kind = placed_kind k (held (has_place k) (refusal.BadValue 1) placed.value placed.is);
+        kind = held (has_place k) (refusal.BadValue 1) placed.value placed.is;
         live = held (live_in k id b) (refusal.NotLive k id) there.value there.is;
         lawful = lawful_placement state x y orientation x_is.0 y_is.0 (held (fits_status state x y orientation) (refusal.BadValue 3) fits.value fits.is);
       })
@@ -94,7 +100,7 @@ module _ (tech : Technology) (library : List Master) (cap : ℕ) (b : Block) whe
       let used = went_on (allowed (has_usage k) 1) _ steps there.rest in
       can_one (step.SetUse k id usage) steps
       (record {
-        kind = used_kind k (held (has_usage k) (refusal.BadValue 1) used.value used.is);
+        kind = held (has_usage k) (refusal.BadValue 1) used.value used.is;
         live = held (live_in k id b) (refusal.NotLive k id) there.value there.is;
       })
       refl used.rest
@@ -160,6 +166,41 @@ module _ (tech : Technology) (library : List Master) (cap : ℕ) (b : Block) whe
         next = refl;
         lawful = faultless (name_fault name) 1 good.value good.is;
         free = is_free kind.Net b name new.value new.is;
+      })
+      (enough (lacks made cap b) room.value room.is)
+      room.rest
+
+  can_new_row : (name site : List ℕ) (x y : ℤ) (orientation : Orient) (sites : RowSites) (steps : List Step) → plan_new_row tech cap b name site x y orientation sites ≡ Ok steps → CanAll tech library cap b steps
+  can_new_row name site x y orientation sites steps h =
+      let along_x = went_on (coordinate x 3) _ steps h in
+      let along_y = went_on (coordinate y 4) _ steps along_x.rest in
+      let repeat = went_on (repeat_of sites) _ steps along_y.rest in
+      let good = went_on (lawful name 1) _ steps repeat.rest in
+      let id = went_on (some_or (find_site tech site) (refusal.Unknown 2)) _ steps good.rest in
+      let new = went_on (unheld b kind.Row name) _ steps id.rest in
+      let row = row_of name id.value along_x.value along_y.value orientation repeat.value in
+      let made = step.NewRow (next_in kind.Row b) row in
+      let room = went_on (nothing_lacks (lacks made cap b)) _ steps new.rest in
+      let found = found_are_named (λ (s : Site). s.name) tech.sites site id.value (there (find_site tech site) (refusal.Unknown 2) id.value id.is) in
+      let place = placed tech.sites id.value found.0 found.1 in
+      let within = slice_get_within tech.sites (id.value - 1) found.0 place.at in
+      let is = passed_repeat sites repeat.value repeat.is in
+      can_one made steps
+      (record {
+        next = refl;
+        lawful = record {
+          name = faultless (name_fault name) 1 good.value good.is;
+          site_from_one = place.some;
+          site = omega (arith, place.some, within);
+          x = passed_coordinate x 3 along_x.value along_x.is;
+          y = passed_coordinate y 4 along_y.value along_y.is;
+          nx = is.nx;
+          ny = is.ny;
+          sx = is.sx;
+          sy = is.sy;
+          repeated = is.repeated;
+        };
+        free = is_free kind.Row b name new.value new.is;
       })
       (enough (lacks made cap b) room.value room.is)
       room.rest
@@ -239,6 +280,7 @@ module _ (tech : Technology) (library : List Master) (cap : ℕ) (b : Block) (so
   planned_can (edit.NewInst name master) steps h = can_new_inst name master steps h
   planned_can (edit.NewNet name) steps h = can_new_net tech library cap b name steps h
   planned_can (edit.NewBTerm name net) steps h = can_new_bterm name net steps h
+  planned_can (edit.NewRow name site x y orientation sites) steps h = can_new_row tech library cap b name site x y orientation sites steps h
   planned_can (edit.Destroy k id) steps h = can_destroy k id steps h
   planned_can (edit.Rename k id name) steps h = can_rename tech library cap b k id name steps h
   planned_can (edit.Swap inst master) steps h = can_swap inst master steps h

@@ -7,10 +7,8 @@ use Rattle.odb_base.specs.declared.codes.kind.Kind.TheVariants as kind
 use Rattle.odb_base.specs.declared.name.NameFault.{NameFault}
 use Rattle.edit_words.specs.declared.refusal.Refusal.{Refusal}
 use Rattle.edit_words.specs.declared.refusal.Refusal.TheVariants as refusal
-use Rattle.block_store.specs.Fields.{HasPlace, HasUsage}
-use Rattle.block_store.specs.Names.{HasNames}
 use Rattle.edits.specs.Checks.{◌>>=◌, holds_or, no_fault, nobody, nothing_lacks, some_or}
-use Rattle.edits.specs.Plan.{has_names, has_place, has_usage, joined, same_terms, unjoined}
+use Rattle.edits.specs.Plan.{joined, same_terms, unjoined}
 
 pub same_ok : {A : Type 0} (x y : A) → ◌≡◌ {A = Result A Refusal} (Ok x) (Ok y) → x ≡ y
 same_ok x y h = cc
@@ -82,23 +80,3 @@ joined_net (Some other) net h =
 pub plain_net : {A : Type 0} (special_of : A → Bool) (o : Option A) → is_some o ≡ true → not (unwrap_or (option_map special_of o) false) ≡ true → option_map special_of o ≡ Some false
 plain_net special_of None some h = absurd (false≢true some)
 plain_net special_of (Some x) some h = ap Some (not-true (special_of x) h)
-
--- what the kinds of objects have
-pub named_kind : (k : Kind) → has_names k ≡ true → HasNames k
-named_kind kind.Inst h = tt
-named_kind kind.Net h = tt
-named_kind kind.BTerm h = tt
-named_kind kind.Row h = tt
-named_kind kind.Region h = tt
-named_kind kind.Group h = tt
-named_kind other h = absurd (false≢true h)
-
-pub placed_kind : (k : Kind) → has_place k ≡ true → HasPlace k
-placed_kind kind.Inst h = tt
-placed_kind kind.Pin h = tt
-placed_kind other h = absurd (false≢true h)
-
-pub used_kind : (k : Kind) → has_usage k ≡ true → HasUsage k
-used_kind kind.Net h = tt
-used_kind kind.BTerm h = tt
-used_kind other h = absurd (false≢true h)

@@ -4,6 +4,8 @@ use Rattle.std.specs.Prelude.{◌≡◌, ◌==◌, ◌&&◌, ◌+◌, ◌/◌, �
 use Rattle.std.specs.List.{find}
 use Rattle.std.specs.Option.{option_map, option_or}
 use Rattle.slot_pool.specs.Table.{Table, next_id}
+use Rattle.odb_base.specs.Geometry.{is_coordinate}
+use Rattle.odb_base.specs.Kind.{has_names, has_place, has_usage, is_terminal}
 use Rattle.odb_base.specs.declared.codes.direction.Direction.{Direction}
 use Rattle.odb_base.specs.declared.codes.direction.Direction.TheVariants as direction
 use Rattle.odb_base.specs.declared.codes.kind.Kind.{Kind}
@@ -12,13 +14,17 @@ use Rattle.odb_base.specs.declared.codes.orient.Orient.{Orient}
 use Rattle.odb_base.specs.declared.codes.orient.Orient.TheVariants as orient
 use Rattle.odb_base.specs.declared.codes.place_status.PlaceStatus.{PlaceStatus}
 use Rattle.odb_base.specs.declared.codes.place_status.PlaceStatus.TheVariants as status
+use Rattle.odb_base.specs.declared.codes.row_form.RowForm.TheVariants as form
 use Rattle.odb_base.specs.declared.codes.usage.Usage.{Usage}
 use Rattle.library.specs.Masters.{find_master, master_at}
 use Rattle.library.specs.Terminals.{term_index}
 use Rattle.library.specs.declared.master.Master.{Master}
-use Rattle.tech.specs.Technology.{Technology}
+use Rattle.tech.specs.Technology.{Technology, find_site}
 use Rattle.library.specs.declared.mterm.MTerm.{MTerm}
+use Rattle.block_records.specs.declared.row.RowRec.{RowRec}
 use Rattle.edit_words.specs.declared.edit.Edit.{Edit}
+use Rattle.edit_words.specs.declared.edit.RowSites.{RowSites}
+use Rattle.edit_words.specs.declared.edit.RowSites.TheVariants as sites
 use Rattle.edit_words.specs.declared.edit.Edit.TheVariants as edit
 use Rattle.edit_words.specs.declared.refusal.Refusal.{Refusal}
 use Rattle.edit_words.specs.declared.refusal.Refusal.TheVariants as refusal
@@ -31,6 +37,7 @@ use Rattle.block_store.specs.Sound.{inst_terms, net_terms}
 use Rattle.steps_net.specs.Can.{Can, inst_master}
 use Rattle.steps_net.specs.Do.{do_step}
 use Rattle.steps_net.specs.Room.{lacks}
+use Rattle.edits.specs.declared.rows.Repeat.{Repeat}
 use Rattle.edits.specs.Checks.{◌>>=◌, allowed, holds_or, lawful, live, nothing_lacks, some_or, unheld}
 
 -- what planning an edit comes to: its steps, or its refusal
@@ -91,6 +98,65 @@ plan_new_bterm cap b name net = do
   room ← nothing_lacks (lacks (step.NewBTerm (next_in kind.BTerm b) name) cap b)
   Ok (step.NewBTerm (next_in kind.BTerm b) name ∷ joined_to (next_in kind.BTerm b) net)
 
+-- the coordinate at this place of the line
+abbrev pub coordinate : ℤ → ℕ → Result ℤ Refusal
+coordinate n place = if is_coordinate n then Ok n else Err (refusal.BadValue place)
+
+-- so many sites along an axis are allowed
+abbrev pub is_site_count : ℤ → Bool
+is_site_count (pos n) = nat_le 1 n && nat_le n 1000000
+is_site_count (negsuc n) = false
+
+-- a number that isn't negative as a whole number
+abbrev pub whole : ℤ → ℕ
+whole (pos n) = n
+whole (negsuc n) = 0
+
+-- the number of sites at this place of the line
+abbrev pub site_count : ℤ → ℕ → Result ℕ Refusal
+site_count n place = if is_site_count n then Ok (whole n) else Err (refusal.BadValue place)
+
+-- how the sites of a new row are repeated; refused for the first count or step outside its limit
+abbrev pub repeat_of : RowSites → Result Repeat Refusal
+repeat_of sites.One = Ok (record { form = form.Bare; nx = 1; ny = 1; sx = pos 0; sy = pos 0 })
+repeat_of (sites.Counted nx ny) = do
+  along_x ← site_count nx 6
+  along_y ← site_count ny 7
+  Ok (record { form = form.Do; nx = along_x; ny = along_y; sx = pos 0; sy = pos 0 })
+repeat_of (sites.Stepped nx ny sx sy) = do
+  along_x ← site_count nx 6
+  along_y ← site_count ny 7
+  step_x ← coordinate sx 8
+  step_y ← coordinate sy 9
+  Ok (record { form = form.DoStep; nx = along_x; ny = along_y; sx = step_x; sy = step_y })
+
+-- the row of this name, site, place, orientation and repetition
+abbrev pub row_of : List ℕ → ℕ → ℤ → ℤ → Orient → Repeat → RowRec
+row_of name site x y orientation repeat = record {
+  name = name;
+  site = site;
+  x = x;
+  y = y;
+  orientation = orientation;
+  form = repeat.form;
+  nx = repeat.nx;
+  ny = repeat.ny;
+  sx = repeat.sx;
+  sy = repeat.sy;
+}
+
+-- a new row; refused for a coordinate, a count or a step outside its limit, a bad name, an unknown site, a name that
+-- is taken, or a full table
+abbrev pub plan_new_row : Technology → ℕ → Block → List ℕ → List ℕ → ℤ → ℤ → Orient → RowSites → Planned
+plan_new_row tech cap b name site x y orientation sites = do
+  along_x ← coordinate x 3
+  along_y ← coordinate y 4
+  repeat ← repeat_of sites
+  good ← lawful name 1
+  id ← some_or (find_site tech site) (refusal.Unknown 2)
+  new ← unheld b kind.Row name
+  new_one cap b (step.NewRow (next_in kind.Row b) (row_of name id along_x along_y orientation repeat))
+
 -- a terminal is parted from the net that it is joined to, 0 for none
 abbrev pub parted_from : Kind → ℕ → ℕ → List Step
 parted_from k id net = if net == 0 then [] else step.Part k id net ∷ []
@@ -120,34 +186,6 @@ plan_destroy b kind.ITerm id = Err (refusal.BadValue 1)
 plan_destroy b kind.Net id = Ok (parted_members id (net_terms b id) ++ step.Del kind.Net id ∷ [])
 plan_destroy b kind.BTerm id = Ok (parted b kind.BTerm id ++ step.Del kind.BTerm id ∷ [])
 plan_destroy b other id = one (step.Del other id)
-
--- objects of the kind have names
-abbrev pub has_names : Kind → Bool
-has_names kind.Inst = true
-has_names kind.Net = true
-has_names kind.BTerm = true
-has_names kind.Row = true
-has_names kind.Region = true
-has_names kind.Group = true
-has_names other = false
-
--- objects of the kind have a place
-abbrev pub has_place : Kind → Bool
-has_place kind.Inst = true
-has_place kind.Pin = true
-has_place other = false
-
--- objects of the kind have a use
-abbrev pub has_usage : Kind → Bool
-has_usage kind.Net = true
-has_usage kind.BTerm = true
-has_usage other = false
-
--- objects of the kind are terminals, of instances or of the block
-abbrev pub is_terminal : Kind → Bool
-is_terminal kind.ITerm = true
-is_terminal kind.BTerm = true
-is_terminal other = false
 
 -- another name; refused where the object isn't there, its kind has no names, or the name is bad or taken
 abbrev pub plan_rename : Block → Kind → ℕ → List ℕ → Planned
@@ -184,15 +222,6 @@ plan_swap library b inst master = do
   id ← some_or (find_master library master) (refusal.Unknown 2)
   same ← same_terms (differing (inst_master library b inst) (master_at library id))
   one (step.Swap inst id)
-
--- the number is within the limit of coordinates
-abbrev pub is_coordinate : ℤ → Bool
-is_coordinate (pos n) = nat_le n 2000000000
-is_coordinate (negsuc n) = nat_lt n 2000000000
-
--- the coordinate at this place of the line
-abbrev pub coordinate : ℤ → ℕ → Result ℤ Refusal
-coordinate n place = if is_coordinate n then Ok n else Err (refusal.BadValue place)
 
 -- the number is 0
 abbrev pub is_zero : ℤ → Bool
@@ -285,6 +314,7 @@ unfoldable pub plan : Technology → List Master → ℕ → Block → Edit → 
 plan tech library cap b (edit.NewInst name master) = plan_new_inst library cap b name master
 plan tech library cap b (edit.NewNet name) = plan_new_net cap b name
 plan tech library cap b (edit.NewBTerm name net) = plan_new_bterm cap b name net
+plan tech library cap b (edit.NewRow name site x y orientation sites) = plan_new_row tech cap b name site x y orientation sites
 plan tech library cap b (edit.Destroy k id) = plan_destroyed b k id
 plan tech library cap b (edit.Rename k id name) = plan_rename b k id name
 plan tech library cap b (edit.Swap inst master) = plan_swap library b inst master
@@ -301,6 +331,7 @@ made [] = 0
 made (step.NewInst id name master terminals ∷ steps) = id
 made (step.NewNet id name ∷ steps) = id
 made (step.NewBTerm id name ∷ steps) = id
+made (step.NewRow id row ∷ steps) = id
 made (other ∷ steps) = 0
 
 -- the steps can be done one after the other, and the tables allow their new objects

@@ -2,10 +2,11 @@ ghost use Rattle.std.specs.Prelude.{◌≡◌, ◌<◌, ◌↔◌, IsTrue};
 ghost use Rattle.edits.specs.Checks.{allowed as is_allowed, holds_or, lawful as is_lawful, live as is_live, no_fault, nobody, nothing_lacks, unheld as is_unheld};
 ghost use Rattle.steps_net.specs.Room.{lacking, lacks};
 ghost use Rattle.block_store.specs.Block.{left_in};
+ghost use Rattle.edits.specs.Plan.{coordinate as is_coordinate_at};
 
 use block_store::Block;
 use edit_words::{Refusal, Step};
-use odb_base::{Kind, name_fault};
+use odb_base::{Kind, is_coordinate, name_fault};
 
 /// The identifier has an object of the kind.
 pub fn live(block: &Block, kind: Kind, id: u32) -> Result<(), Refusal>
@@ -24,6 +25,17 @@ pub fn allowed(holds: bool, at: u32) -> Result<(), Refusal>
 {
     if holds {
         Ok(())
+    } else {
+        Err(Refusal::BadValue { at })
+    }
+}
+
+/// The number at this place of the line, where it is within the limit of coordinates.
+pub fn coordinate(n: i64, at: u32) -> Result<i32, Refusal>
+    ensures { result ≡ is_coordinate_at n at }
+{
+    if is_coordinate(n) {
+        Ok(n as i32)
     } else {
         Err(Refusal::BadValue { at })
     }

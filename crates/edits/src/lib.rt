@@ -14,6 +14,7 @@ pub mod checks;
 pub mod destroy;
 pub mod make;
 pub mod planning;
+pub mod rows;
 pub mod set;
 pub mod swap;
 

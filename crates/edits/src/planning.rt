@@ -6,6 +6,7 @@ ghost use Rattle.edits.specs.Planning.{HasFewTerminals, IsPlanned};
 
 use crate::destroy::plan_destroyed;
 use crate::make::{plan_bterm, plan_inst, plan_net};
+use crate::rows::plan_row;
 use crate::set::{
     plan_join, plan_make_special, plan_part, plan_place, plan_rename, plan_set_dir, plan_set_use,
 };
@@ -55,6 +56,24 @@ fn plan_by_edit(
         ),
         Edit::NewNet { name } => plan_net(alloc, block, name.bytes()),
         Edit::NewBTerm { name, net } => plan_bterm(alloc, block, name.bytes(), *net),
+        Edit::NewRow {
+            name,
+            site,
+            x,
+            y,
+            orientation,
+            sites,
+        } => plan_row(
+            alloc,
+            block,
+            tech,
+            name.bytes(),
+            site.bytes(),
+            *x,
+            *y,
+            *orientation,
+            *sites,
+        ),
         Edit::Destroy { kind, id } => plan_destroyed(alloc, block, *kind, *id),
         Edit::Rename { kind, id, name } => plan_rename(alloc, block, *kind, *id, name.bytes()),
         Edit::Swap { inst, master } => plan_swap(alloc, block, library, *inst, master.bytes()),

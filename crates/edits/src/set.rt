@@ -1,16 +1,13 @@
 ghost use Rattle.std.specs.Prelude.{◌≡◌};
 ghost use Rattle.block_store.specs.Fields.{net_in};
-ghost use Rattle.edits.specs.Plan.{coordinate, fits_status, has_names, has_place, has_usage, is_bterm_direction, is_coordinate, is_north, is_terminal, joined, plan_join, plan_make_special, plan_part, plan_place, plan_rename, plan_set_dir, plan_set_use, unjoined};
+ghost use Rattle.edits.specs.Plan.{fits_status, is_bterm_direction, is_north, joined, plan_join, plan_make_special, plan_part, plan_place, plan_rename, plan_set_dir, plan_set_use, unjoined};
 ghost use Rattle.edits.specs.Planning.{IsPlanned};
 
-use crate::checks::{allowed, lawful, live, unheld};
+use crate::checks::{allowed, coordinate, lawful, live, unheld};
 use crate::make::{name_of, one};
 use block_store::Block;
 use edit_words::{Refusal, Step};
-use odb_base::{
-    BTermId, COORDINATE_LIMIT, Direction, ITermId, Kind, NetId, Orient, PlaceStatus, Placement,
-    Usage,
-};
+use odb_base::{BTermId, Direction, ITermId, Kind, NetId, Orient, PlaceStatus, Placement, Usage};
 use std::alloc::Global;
 
 /// The plan of another name for an object.
@@ -24,21 +21,11 @@ pub fn plan_rename(
     ensures { IsPlanned (plan_rename block.now.block kind id name.now) result }
 {
     live(block, kind, id)?;
-    allowed(has_names(kind), 1)?;
+    allowed(kind.has_names(), 1)?;
     lawful(name, 3)?;
     unheld(block, kind, name)?;
     let name = name_of(alloc, name)?;
     Ok(one(alloc, Step::Rename { kind, id, name })?)
-}
-
-// Objects of the kind have names.
-fn has_names(kind: Kind) -> bool
-    ensures { result ≡ has_names kind }
-{
-    matches!(
-        kind,
-        Kind::Inst | Kind::Net | Kind::BTerm | Kind::Row | Kind::Region | Kind::Group
-    )
 }
 
 /// The plan of a placement for an object.
@@ -55,7 +42,7 @@ pub fn plan_place(
     ensures { IsPlanned (plan_place block.now.block kind id status x y orientation) result }
 {
     live(block, kind, id)?;
-    allowed(has_place(kind), 1)?;
+    allowed(kind.has_place(), 1)?;
     allowed(fits_status(status, x, y, orientation), 3)?;
     let place = Placement {
         status,
@@ -64,13 +51,6 @@ pub fn plan_place(
         orientation,
     };
     Ok(one(alloc, Step::Place { kind, id, place })?)
-}
-
-// Objects of the kind have a placement.
-fn has_place(kind: Kind) -> bool
-    ensures { result ≡ has_place kind }
-{
-    matches!(kind, Kind::Inst | Kind::Pin)
 }
 
 // What is unplaced stands at 0, 0 and is turned N.
@@ -89,24 +69,6 @@ fn is_north(orientation: Orient) -> bool
     matches!(orientation, Orient::N)
 }
 
-// The number at this place of the line, where it is within the limit of coordinates.
-fn coordinate(n: i64, at: u32) -> Result<i32, Refusal>
-    ensures { result ≡ coordinate n at }
-{
-    if is_coordinate(n) {
-        Ok(n as i32)
-    } else {
-        Err(Refusal::BadValue { at })
-    }
-}
-
-fn is_coordinate(n: i64) -> bool
-    ensures { result ≡ is_coordinate n }
-{
-    let limit = i64::from(COORDINATE_LIMIT);
-    -limit <= n && n <= limit
-}
-
 /// The plan of a use for a net or a block terminal.
 pub fn plan_set_use(
     alloc: Global,
@@ -118,15 +80,8 @@ pub fn plan_set_use(
     ensures { IsPlanned (plan_set_use block.now.block kind id usage) result }
 {
     live(block, kind, id)?;
-    allowed(has_usage(kind), 1)?;
+    allowed(kind.has_usage(), 1)?;
     Ok(one(alloc, Step::SetUse { kind, id, usage })?)
-}
-
-// Objects of the kind have a use.
-fn has_usage(kind: Kind) -> bool
-    ensures { result ≡ has_usage kind }
-{
-    matches!(kind, Kind::Net | Kind::BTerm)
 }
 
 /// The plan of a direction for a block terminal.
@@ -173,7 +128,7 @@ pub fn plan_join(
 {
     live(block, kind, id)?;
     live(block, Kind::Net, net)?;
-    allowed(is_terminal(kind), 1)?;
+    allowed(kind.is_terminal(), 1)?;
     unjoined(net_of(block, kind, id))?;
     Ok(one(alloc, Step::Join { kind, id, net })?)
 }
@@ -183,16 +138,9 @@ pub fn plan_part(alloc: Global, block: &Block, kind: Kind, id: u32) -> Result<Ve
     ensures { IsPlanned (plan_part block.now.block kind id) result }
 {
     live(block, kind, id)?;
-    allowed(is_terminal(kind), 1)?;
+    allowed(kind.is_terminal(), 1)?;
     let net = joined(net_of(block, kind, id))?;
     Ok(one(alloc, Step::Part { kind, id, net })?)
-}
-
-// Objects of the kind are joined to nets.
-fn is_terminal(kind: Kind) -> bool
-    ensures { result ≡ is_terminal kind }
-{
-    matches!(kind, Kind::ITerm | Kind::BTerm)
 }
 
 /// The net that a terminal is joined to, 0 for none. What is no terminal has none.

@@ -207,6 +207,7 @@ fn made(steps: &[Step]) -> u32
         Some(Step::NewInst { id, .. }) => *id,
         Some(Step::NewNet { id, .. }) => *id,
         Some(Step::NewBTerm { id, .. }) => *id,
+        Some(Step::NewRow { id, .. }) => *id,
         _ => 0,
     }
 }

@@ -2,6 +2,8 @@
 use Rattle.std.specs.Prelude.{◌==◌, List, [], ◌∷◌, ℕ, ℤ, pos, Option, None, Some, Result, Ok, Err, if◌then◌else◌, codes, slice_index}
 use Rattle.std.specs.Str.{bytes_eq}
 use Rattle.edit_words.specs.declared.edit.Edit.TheVariants as edit
+use Rattle.edit_words.specs.declared.edit.RowSites.{RowSites}
+use Rattle.edit_words.specs.declared.edit.RowSites.TheVariants as sites
 use Rattle.library.specs.declared.master.Master.{Master}
 use Rattle.library.specs.declared.mterm.MTerm.{MTerm}
 use Rattle.odb_base.specs.declared.codes.direction.Direction.{Direction}
@@ -61,6 +63,34 @@ new_bterm words = do
   (name, words) ← word_at words
   net ← last_id words
   Ok (command.Edit (edit.NewBTerm name net))
+
+-- the steps of so many sites of a row, to the end of the line
+unfoldable pub steps_to_end : ℤ → ℤ → Words → Result RowSites LineFault
+steps_to_end nx ny [] = Ok (sites.Counted nx ny)
+steps_to_end nx ny (word ∷ words) = do
+  (sx, words) ← number_at (word ∷ words)
+  (sy, words) ← number_at words
+  done ← end_at words
+  Ok (sites.Stepped nx ny sx sy)
+
+-- how often the site of a row is repeated, to the end of the line
+unfoldable pub sites_to_end : Words → Result RowSites LineFault
+sites_to_end [] = Ok sites.One
+sites_to_end (word ∷ words) = do
+  (nx, words) ← number_at (word ∷ words)
+  (ny, words) ← number_at words
+  steps_to_end nx ny words
+
+-- `new_row NAME SITE X Y ORIENT [NX NY [SX SY]]`
+unfoldable pub new_row : Line
+new_row words = do
+  (name, words) ← word_at words
+  (site, words) ← word_at words
+  (x, words) ← number_at words
+  (y, words) ← number_at words
+  (orientation, words) ← orient_at words
+  repeated ← sites_to_end words
+  Ok (command.Edit (edit.NewRow name site x y orientation repeated))
 
 -- `destroy KIND ID`
 unfoldable pub destroy : Line
@@ -290,6 +320,7 @@ unfoldable pub line_of : Verb → Line
 line_of verb.NewInst words = new_inst words
 line_of verb.NewNet words = new_net words
 line_of verb.NewBTerm words = new_bterm words
+line_of verb.NewRow words = new_row words
 line_of verb.Destroy words = destroy words
 line_of verb.Rename words = rename words
 line_of verb.Swap words = swap words

@@ -6,7 +6,7 @@ use Rattle.script_words.specs.Forms.{value_named}
 
 -- every verb
 abbrev pub verbs : List Verb
-verbs = verb.NewInst ∷ verb.NewNet ∷ verb.NewBTerm ∷ verb.Destroy ∷ verb.Rename ∷ verb.Swap
+verbs = verb.NewInst ∷ verb.NewNet ∷ verb.NewBTerm ∷ verb.NewRow ∷ verb.Destroy ∷ verb.Rename ∷ verb.Swap
     ∷ verb.Place ∷ verb.SetUse ∷ verb.SetDir ∷ verb.MakeSpecial ∷ verb.Join ∷ verb.Part
     ∷ verb.Units ∷ verb.Layer ∷ verb.Site ∷ verb.Master ∷ verb.ReadLef ∷ verb.Find
     ∷ verb.List ∷ verb.Free ∷ verb.Counts ∷ verb.Terms ∷ verb.Save ∷ verb.Load
@@ -17,6 +17,7 @@ unfoldable pub verb_word : Verb → List ℕ
 verb_word verb.NewInst = codes "new_inst"
 verb_word verb.NewNet = codes "new_net"
 verb_word verb.NewBTerm = codes "new_bterm"
+verb_word verb.NewRow = codes "new_row"
 verb_word verb.Destroy = codes "destroy"
 verb_word verb.Rename = codes "rename"
 verb_word verb.Swap = codes "swap"

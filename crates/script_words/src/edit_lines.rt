@@ -1,6 +1,6 @@
 //! The lines of edits, one function each. Each takes the words behind the command's word.
 
-ghost use Rattle.script_words.specs.Commands.{destroy, join, last_id, make_special, new_bterm, new_inst, new_net, part, place, rename, set_dir, set_use, swap};
+ghost use Rattle.script_words.specs.Commands.{destroy, join, last_id, make_special, new_bterm, new_inst, new_net, new_row, part, place, rename, set_dir, set_use, sites_to_end, steps_to_end, swap};
 ghost use Rattle.script_words.specs.Answers.{IsAnswer};
 ghost use Rattle.script_words.specs.Words.{words_of};
 
@@ -8,7 +8,7 @@ use crate::command_words::Command;
 use crate::fault::LineFault;
 use crate::forms::{end, id, number, object, text, worded};
 use crate::words::next_word;
-use edit_words::Edit;
+use edit_words::{Edit, RowSites};
 use std::alloc::Global;
 
 /// `new_inst NAME MASTER`.
@@ -53,6 +53,54 @@ fn last_id(line: &[u8]) -> Result<Option<u32>, LineFault>
     let (id, line) = id(line)?;
     end(line)?;
     Ok(Some(id))
+}
+
+/// `new_row NAME SITE X Y ORIENT [NX NY [SX SY]]`.
+#[tactic(auto, unfolding(crate::specs::Commands::new_row))]
+pub fn new_row(alloc: Global, line: &[u8]) -> Result<Command, LineFault>
+    ensures { IsAnswer result (new_row (words_of line.now)) }
+{
+    let (name, line) = text(alloc, line)?;
+    let (site, line) = text(alloc, line)?;
+    let (x, line) = number(line)?;
+    let (y, line) = number(line)?;
+    let (orientation, line) = worded(line)?;
+    let sites = sites_to_end(line)?;
+    Ok(Command::Edit(Edit::NewRow {
+        name,
+        site,
+        x,
+        y,
+        orientation,
+        sites,
+    }))
+}
+
+// How often the site of a row is repeated, to the end of the line.
+#[tactic(auto, unfolding(crate::specs::Commands::sites_to_end))]
+fn sites_to_end(line: &[u8]) -> Result<RowSites, LineFault>
+    ensures { IsAnswer result (sites_to_end (words_of line.now)) }
+{
+    if next_word(line).is_none() {
+        return Ok(RowSites::One);
+    }
+    let (nx, line) = number(line)?;
+    let (ny, line) = number(line)?;
+    steps_to_end(nx, ny, line)
+}
+
+// The steps of so many sites, to the end of the line.
+#[tactic(auto, unfolding(crate::specs::Commands::steps_to_end))]
+fn steps_to_end(nx: i64, ny: i64, line: &[u8]) -> Result<RowSites, LineFault>
+    ensures { IsAnswer result (steps_to_end nx ny (words_of line.now)) }
+{
+    if next_word(line).is_none() {
+        return Ok(RowSites::Counted { nx, ny });
+    }
+    let (sx, line) = number(line)?;
+    let (sy, line) = number(line)?;
+    end(line)?;
+    Ok(RowSites::Stepped { nx, ny, sx, sy })
 }
 
 /// `destroy KIND ID`.

@@ -5,7 +5,7 @@ ghost use Rattle.script_words.specs.Words.{words_of};
 
 use crate::command_words::Command;
 use crate::edit_lines::{
-    destroy, join, make_special, new_bterm, new_inst, new_net, part, place, rename, set_dir,
+    destroy, join, make_special, new_bterm, new_inst, new_net, new_row, part, place, rename, set_dir,
     set_use, swap,
 };
 use crate::fault::LineFault;
@@ -57,6 +57,7 @@ fn line_of(alloc: Global, verb: Verb, words: &[u8]) -> Result<Command, LineFault
         Verb::NewInst => new_inst(alloc, words),
         Verb::NewNet => new_net(alloc, words),
         Verb::NewBTerm => new_bterm(alloc, words),
+        Verb::NewRow => new_row(alloc, words),
         Verb::Destroy => destroy(words),
         Verb::Rename => rename(alloc, words),
         Verb::Swap => swap(alloc, words),

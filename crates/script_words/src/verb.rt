@@ -9,6 +9,7 @@ pub enum Verb {
     NewInst,
     NewNet,
     NewBTerm,
+    NewRow,
     Destroy,
     Rename,
     Swap,
@@ -35,10 +36,11 @@ pub enum Verb {
 }
 
 // Every verb. A word is looked for in this order.
-const VERBS: [Verb; 26] = [
+const VERBS: [Verb; 27] = [
     Verb::NewInst,
     Verb::NewNet,
     Verb::NewBTerm,
+    Verb::NewRow,
     Verb::Destroy,
     Verb::Rename,
     Verb::Swap,
@@ -83,6 +85,7 @@ impl Worded for Verb {
             Verb::NewInst => b"new_inst",
             Verb::NewNet => b"new_net",
             Verb::NewBTerm => b"new_bterm",
+            Verb::NewRow => b"new_row",
             Verb::Destroy => b"destroy",
             Verb::Rename => b"rename",
             Verb::Swap => b"swap",

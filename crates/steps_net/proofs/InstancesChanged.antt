@@ -1,6 +1,7 @@
 -- A sound block in which the tables of instances and of their terminals changed: what those tables owe.
 use Rattle.std.proofs.Common.{◌≡◌, false, List, [], ℕ, Option, Some, None, IsTrue, is_some, refl, sym, ap, ◌∙◌}
 use Rattle.std.specs.Option.{option_map, option_map_or}
+use Rattle.std.proofs.lemmas.Bool.{false≢true}
 use Rattle.slot_pool.specs.Table.{Table, record_at}
 use Rattle.odb_base.specs.Ids.{holds}
 use Rattle.odb_base.specs.declared.codes.kind.Kind.TheVariants as kind
@@ -46,8 +47,8 @@ module _ (tech : Technology) (library : List Master) (cap : ℕ) (d : Block) whe
       let c = record d { inst = t; iterm = u } in
       let parts = parts_by tech library d.header in
       sound_beside tech library cap d c sound refl
-      (stays (IsKind parts cap) kind.ITerm u (record d { inst = t }) (record { table = is_u; each = λ id r found. tt; named = tt })
-      (stays (IsKind parts cap) kind.Inst t d (record { table = is_t; each = each; named = named }) sound.kinds))
+      (stays (IsKind parts cap) kind.ITerm u (record d { inst = t }) (record { table = is_u; each = λ id r found. tt; named = tt; coming = λ unbuilt. absurd (false≢true (sym unbuilt)) })
+      (stays (IsKind parts cap) kind.Inst t d (record { table = is_t; each = each; named = named; coming = λ unbuilt. absurd (false≢true (sym unbuilt)) }) sound.kinds))
       (record {
         held = held_changed t u nets sound;
         placed = placed_stands (terms_in t) (terminals_of (view c)) (λ part. named_place (record_at u part)) (place_of (view c)) (terminals_seen c) (place_seen c) placed;

@@ -156,16 +156,3 @@ module _ (tech : Technology) (library : List Master) (cap : ℕ) (d : Block) (id
         good = good_terms_given (inst_terms d id) d.iterm (sound.kinds kind.ITerm).table.good (can_give d id (terms_placed tech library cap d sound));
         terms = omega (arith, freed, ap length terms, length-append (inst_terms d id) d.iterm.free);
       }
-
-  moved_by : (e : Option InstEntry) (r : InstRec) → memo.Record (rec.Inst r) ≡ removed (option_map (λ (x : InstEntry). rec.Inst x.fields) e) → (x : InstEntry) × (e ≡ Some x) × (r ≡ x.fields)
-  moved_by None r moved = cc
-  moved_by (Some x) r moved = (x, refl, cc)
-
-  -- and of what the step moved out
-  pub can_return_moved : IsSound tech library cap d → CanDel d kind.Inst id → (r : InstRec) → memo.Record (rec.Inst r) ≡ memo_of (step.Del kind.Inst id) d → CanReturn r gone
-  can_return_moved sound can r moved =
-      let e = moved_by (record_at d.inst id) r moved in
-      subst (λ x. CanReturn x gone) (sym e.2) (can_return sound can e.0 e.1)
-
-  pub came_del_inst : (r : InstRec) (c : Block) → Came tech library cap d (step.Del kind.Inst id) (memo.Record (rec.Inst r)) c → CanReturn r c
-  came_del_inst r c came = rw came.after (can_return_moved came.sound came.can r came.memo)

@@ -1,7 +1,7 @@
 -- A terminal is joined to a net or parted from it: the block stays sound, and the way back leads to it.
 use Rattle.std.proofs.Common.{◌≡◌, ◌≤◌, true, eqb, eq-eqb, List, ◌∷◌, ◌++◌, [], ℕ, Option, Some, None, IsTrue, refl, sym, ap, ◌∙◌, subst}
 use Rattle.std.specs.Option.{IfSome, option_map}
-use Rattle.std.proofs.lemmas.Bool.{or_left, or_right}
+use Rattle.std.proofs.lemmas.Bool.{false≢true, or_left, or_right}
 use Rattle.slot_pool.specs.Table.{Table, is_live, record_at}
 use Rattle.odb_base.specs.Ids.{IsDistinct, after, first, holds, placed, without}
 use Rattle.odb_base.proofs.Ids.{holds-append}
@@ -82,13 +82,13 @@ terms_on change net t live =
 terms_after : (d : Block) (k : Kind) (change : List ℕ → List ℕ) (id new net : ℕ) → IsTrue (is_live d.net net) → HasNet k → net_terms (with_net k id new (on_list change (list.Terms (record { 0 = net })) d)) net ≡ change (net_terms d net)
 terms_after d kind.ITerm change id new net live has = terms_on change net d.net live
 terms_after d kind.BTerm change id new net live has = terms_on change net d.net live
-terms_after d other change id new net live has = absurd has
+terms_after d other change id new net live has = absurd (false≢true has)
 
 -- A terminal is there after a list of a net changed.
 pub live_beside_list : (change : List ℕ → List ℕ) (net : ℕ) (k : Kind) (id : ℕ) (d : Block) → HasNet k → IsTrue (live_in k id d) → IsTrue (live_in k id (on_list change (list.Terms (record { 0 = net })) d))
 live_beside_list change net kind.ITerm id d has live = live
 live_beside_list change net kind.BTerm id d has live = live
-live_beside_list change net other id d has live = absurd has
+live_beside_list change net other id d has live = absurd (false≢true has)
 
 -- the first of a list is a member
 first_inside : (front back : List ℕ) (next : ℕ) → first back ≡ Some next → holds (front ++ back) next ≡ true
@@ -114,21 +114,21 @@ module _ (tech : Technology) (library : List Master) (cap : ℕ) (d : Block) whe
   pub joinable : (k : Kind) (id net : ℕ) → IsSound tech library cap d → CanJoin d k id net → IsJoinable k id net d
   joinable kind.ITerm id net sound can =
       let r = shown_by (λ (r : ITermRec). r.net) (record_at d.iterm id) 0 can.unjoined in
-      record { enter = iterm_enters tech library cap d sound id net can.unjoined can.there; live = live_by d.iterm id r.value r.is; kind = tt }
+      record { enter = iterm_enters tech library cap d sound id net can.unjoined can.there; live = live_by d.iterm id r.value r.is; kind = refl }
   joinable kind.BTerm id net sound can =
       let r = shown_by (λ (e : BTermEntry). e.fields.net) (record_at d.bterm id) 0 can.unjoined in
-      record { enter = bterm_enters tech library cap d sound id net can.unjoined can.there; live = live_by d.bterm id r.value r.is; kind = tt }
+      record { enter = bterm_enters tech library cap d sound id net can.unjoined can.there; live = live_by d.bterm id r.value r.is; kind = refl }
   joinable other id net sound can = absurd (none_is 0 can.unjoined)
 
   pub joined : (k : Kind) (id net : ℕ) → IsSound tech library cap d → CanPart d k id net → IsJoined k id net d
   joined kind.ITerm id net sound can =
       let r = shown_by (λ (r : ITermRec). r.net) (record_at d.iterm id) net can.joined in
       let inside = iterm_inside tech library cap d sound id net can.some can.joined in
-      record { has = net_of_member tech library cap d net (iterm_number id) inside; member = inside; live = live_by d.iterm id r.value r.is; kind = tt }
+      record { has = net_of_member tech library cap d net (iterm_number id) inside; member = inside; live = live_by d.iterm id r.value r.is; kind = refl }
   joined kind.BTerm id net sound can =
       let r = shown_by (λ (e : BTermEntry). e.fields.net) (record_at d.bterm id) net can.joined in
       let inside = bterm_inside tech library cap d sound id net can.some can.joined in
-      record { has = net_of_member tech library cap d net (bterm_number id) inside; member = inside; live = live_by d.bterm id r.value r.is; kind = tt }
+      record { has = net_of_member tech library cap d net (bterm_number id) inside; member = inside; live = live_by d.bterm id r.value r.is; kind = refl }
   joined other id net sound can = absurd (none_is net can.joined)
 
   -- a terminal after it was joined can be parted

@@ -1,6 +1,7 @@
 -- A field of an object is set, or its name: the block stays sound, and the way back leads to it.
 use Rattle.std.proofs.Common.{◌≡◌, Bool, true, false, List, [], ℕ, Option, Some, IsTrue, refl, sym, ap, ◌∙◌}
 use Rattle.std.specs.Option.{option_map, unwrap_or}
+use Rattle.std.proofs.lemmas.Bool.{false≢true}
 use Rattle.slot_pool.specs.Table.{is_live, record_at}
 use Rattle.odb_base.specs.declared.codes.direction.Direction.{Direction}
 use Rattle.odb_base.specs.declared.codes.direction.Direction.TheVariants as direction
@@ -24,7 +25,8 @@ use Rattle.block_store.specs.Nets.{net_name}
 use Rattle.block_store.specs.Placements.{unplaced}
 use Rattle.block_store.specs.Sound.{IsSound}
 use Rattle.block_store.specs.Tables.{AreNamed}
-use Rattle.block_store.specs.View.{group_name, region_name, row_name}
+use Rattle.block_store.specs.Rows.{row_name}
+use Rattle.block_store.specs.View.{group_name, region_name}
 use Rattle.block_store.proofs.Changed.{sound_renamed}
 use Rattle.block_store.proofs.OneTable.{live_stays}
 use Rattle.block_store.proofs.SetFields.{BTermDirection, BTermUsage, InstPlace, NetSpecial, NetUsage, PinPlace, entry_back, field, field_back, sound_field}
@@ -41,12 +43,12 @@ module _ (tech : Technology) (library : List Master) (cap : ℕ) (d : Block) whe
   pub sound_place : (k : Kind) (id : ℕ) (place : Placement) → IsSound tech library cap d → CanPlace d k id place → IsSound tech library cap (with_place k id place d)
   sound_place kind.Inst id place sound can = sound_field tech library cap d InstPlace place id can.lawful sound
   sound_place kind.Pin id place sound can = sound_field tech library cap d PinPlace place id can.lawful sound
-  sound_place other id place sound can = absurd can.kind
+  sound_place other id place sound can = absurd (false≢true can.kind)
 
   pub sound_usage : (k : Kind) (id : ℕ) (usage : Usage) → IsSound tech library cap d → CanSetUse d k id → IsSound tech library cap (with_usage k id usage d)
   sound_usage kind.Net id usage sound can = sound_field tech library cap d NetUsage usage id tt sound
   sound_usage kind.BTerm id usage sound can = sound_field tech library cap d BTermUsage usage id tt sound
-  sound_usage other id usage sound can = absurd can.kind
+  sound_usage other id usage sound can = absurd (false≢true can.kind)
 
   pub sound_direction : (id : ℕ) (direction : Direction) → IsSound tech library cap d → IsBTermDirection direction → IsSound tech library cap (with_direction id direction d)
   sound_direction id direction sound lawful = sound_field tech library cap d BTermDirection direction id lawful sound
@@ -64,10 +66,15 @@ module _ (tech : Technology) (library : List Master) (cap : ℕ) (d : Block) whe
   sound_rename kind.BTerm id name sound can =
       sound_renamed tech library cap d kind.BTerm bterm_name refl name id
       (λ x is. record { name = can.lawful; direction = is.direction; kept = is.kept; pins = is.pins }) (λ x. refl) can.live can.free sound
-  sound_rename kind.Row id name sound can = sound_renamed tech library cap d kind.Row row_name refl name id (λ x is. is) (λ x. refl) can.live can.free sound
+  sound_rename kind.Row id name sound can =
+      sound_renamed tech library cap d kind.Row row_name refl name id
+      (λ x is. let f = is.fields in record {
+        fields = record { name = can.lawful; site_from_one = f.site_from_one; site = f.site; x = f.x; y = f.y; nx = f.nx; ny = f.ny; sx = f.sx; sy = f.sy; repeated = f.repeated };
+        props = is.props;
+      }) (λ x. refl) can.live can.free sound
   sound_rename kind.Region id name sound can = sound_renamed tech library cap d kind.Region region_name refl name id (λ x is. is) (λ x. refl) can.live can.free sound
   sound_rename kind.Group id name sound can = sound_renamed tech library cap d kind.Group group_name refl name id (λ x is. is) (λ x. refl) can.live can.free sound
-  sound_rename other id name sound can = absurd can.kind
+  sound_rename other id name sound can = absurd (false≢true can.kind)
 
   pub freed_name : (k : Kind) (id : ℕ) (name : List ℕ) → IsSound tech library cap d → CanRename d k id name → IsFreeBut k id (unwrap_or (name_in k id d) []) (with_name k id name d)
   freed_name kind.Inst id name sound can = freed kind.Inst inst_name name id d can.live (sound.kinds kind.Inst).named
@@ -76,7 +83,7 @@ module _ (tech : Technology) (library : List Master) (cap : ℕ) (d : Block) whe
   freed_name kind.Row id name sound can = freed kind.Row row_name name id d can.live (sound.kinds kind.Row).named
   freed_name kind.Region id name sound can = freed kind.Region region_name name id d can.live (sound.kinds kind.Region).named
   freed_name kind.Group id name sound can = freed kind.Group group_name name id d can.live (sound.kinds kind.Group).named
-  freed_name other id name sound can = absurd can.kind
+  freed_name other id name sound can = absurd (false≢true can.kind)
 
 module _ (d : Block) where
   pub back_place : (k : Kind) (id : ℕ) (place : Placement) → with_place k id (unwrap_or (place_in k id d) unplaced) (with_place k id place d) ≡ d

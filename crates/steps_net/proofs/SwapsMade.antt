@@ -22,16 +22,18 @@ use Rattle.block_store.specs.Sound.{IsSound, inst_terms, iterm_net, iterm_place}
 use Rattle.block_store.specs.Tables.{AreEach}
 use Rattle.block_store.specs.TermPlaces.{ArePlaced}
 use Rattle.block_store.proofs.Joined.{none_is, shown_by, some_is, terms_placed}
-use Rattle.block_store.proofs.Shown.{LiveRecord, each_on, live_by, live_on, live_record, named_stands, table_on, view_on}
+use Rattle.block_store.proofs.Shown.{LiveRecord, each_on, live_by, live_on, live_record, named_stands, table_on, view_at_on, view_on}
+use Rattle.library.proofs.TerminalNames.{found_terminals_are_named}
 use Rattle.block_store.proofs.TableLemmas.{at_on, at_on_other, on_on, on_same}
 use Rattle.steps_net.specs.Back.{Came, back, master_of, memo_of, terminals_moved}
 use Rattle.steps_net.specs.Can.{CanSwap, HaveSameTerms, inst_master}
 use Rattle.steps_net.specs.Do.{do_step, fresh_iterm, reordered, reordered_by, swapped, terms_given}
+use Rattle.steps_net.specs.Laws.{KeepNames}
 use Rattle.steps_net.specs.Terms.{CanExchange, CanSwapFor}
 use Rattle.steps_net.proofs.InstancesChanged.{insts_changed, net_of, terms_in}
 use Rattle.steps_net.proofs.InstancesGone.{can_give, of_no_other}
 use Rattle.steps_net.proofs.InstancesTerms.{free_terms_given, free_within, good_terms_given, inst_of, named_place, number_of, place_is, slots_terms_given, somewhere_or_not}
-use Rattle.steps_net.proofs.SwapsOrder.{IsReordering, is_inside, is_reordering, reordering_fits}
+use Rattle.steps_net.proofs.SwapsOrder.{IsReordering, came_from, is_inside, is_reordering, reordering_fits}
 use Rattle.steps_net.proofs.SwapsPlaces.{IsOnce, free_indexed, indexed_is, is_table_indexed, kept_indexed, moved_to, set_indexed, slots_indexed, table_indexed, view_indexed}
 
 -- the entry with another master and other terminals
@@ -214,6 +216,24 @@ module _ (tech : Technology) (library : List Master) (cap : ℕ) (d : Block) (in
       ap (λ o. swapped inst master (reordered_by o (master_at library master) (inst_terms d inst)) d) can.is_old
       ∙ ap (λ o. swapped inst master (reordered_by (Some can.old) o (inst_terms d inst)) d) can.is_new
       ∙ swap_is inst master (order_of can) d
+
+  -- the terminals after the step
+  terms_now : (can : CanSwap library d inst master) → inst_terms (do_step library (step.Swap inst master) d) inst ≡ order_of can
+  terms_now can =
+      let has = has_master library d inst can.old can.is_old in
+      ap (λ b. inst_terms b inst) (step_is can)
+      ∙ view_at_on (list_in (λ (e : InstEntry). e.fields.terminals)) (exchanged master (order_of can)) inst has.entry d.inst has.found
+
+  -- each of them stood before the step under the same name
+  pub keep_names : IsSound tech library cap d → (can : CanSwap library d inst master) → KeepNames library d inst master can
+  keep_names sound can k part at =
+      let came = came_from can.old can.new (inst_terms d inst) (sound.masters master can.new can.is_new) can.same (fitted_old sound can.old (has_master library d inst can.old can.is_old)) k part
+          (ap (λ ids. slice_get ids k) (sym (terms_now can)) ∙ at) in
+      (
+        came.place,
+        came.at,
+        found_terminals_are_named can.old came.match.name came.place came.match.in_old ∙ sym (found_terminals_are_named can.new came.match.name k came.match.in_new),
+      )
 
   inst_exchanged_is : (order : List ℕ) (m : Master) → master_at library master ≡ Some m → length m.terminals ≡ length order → (e : InstEntry) → IsInst library e → IsInst library (exchanged master order e)
   inst_exchanged_is order m at long e is = record {

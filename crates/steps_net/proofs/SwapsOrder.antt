@@ -116,15 +116,15 @@ module _ (old new : Master) (terms : List ℕ) where
       ]
 
   -- the places of a name in both masters
-  record IsMatch (j k : ℕ) : Type 0 where
-    name : List ℕ
-    in_old : term_index old name ≡ Some j
-    in_new : term_index new name ≡ Some k
+  pub record IsMatch (j k : ℕ) : Type 0 where
+    pub name : List ℕ
+    pub in_old : term_index old name ≡ Some j
+    pub in_new : term_index new name ≡ Some k
 
-  record CameFrom (k part : ℕ) : Type 0 where
-    place : ℕ
-    at : slice_get terms place ≡ Some part
-    match : IsMatch place k
+  pub record CameFrom (k part : ℕ) : Type 0 where
+    pub place : ℕ
+    pub at : slice_get terms place ≡ Some part
+    pub match : IsMatch place k
 
   record WentTo (j part : ℕ) : Type 0 where
     place : ℕ
@@ -135,7 +135,7 @@ module _ (old new : Master) (terms : List ℕ) where
       let x = shown_by (λ (t : MTerm). t.name) (slice_get old.terminals j) name (found_terminals_are_named old name j found) in
       omega (arith, fitted, slice_get_within old.terminals j x.value x.is)
 
-  came_from : HasDistinctTerminals new → HaveSameTerms old new → length old.terminals ≡ length terms → (k part : ℕ) → slice_get (reordered old new terms) k ≡ Some part → CameFrom k part
+  pub came_from : HasDistinctTerminals new → HaveSameTerms old new → length old.terminals ≡ length terms → (k part : ℕ) → slice_get (reordered old new terms) k ≡ Some part → CameFrom k part
   came_from distinct same fitted k part at =
       let y = shown_by taken_for (slice_get new.terminals k) part (sym (slice_get-map taken_for new.terminals k) ∙ at) in
       let in_new = named_terminals_are_found new k y.value.name distinct (ap (option_map (λ (t : MTerm). t.name)) y.is) in

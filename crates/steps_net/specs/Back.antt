@@ -40,16 +40,17 @@ use Rattle.steps_net.specs.Do.{do_step, swapped, terms_taken}
 abbrev pub master_of : Block → ℕ → ℕ
 master_of b inst = option_map_or (λ e. e.fields.master) (record_at b.inst inst) 0
 
--- what is moved out where an object goes: its record, if it has one
+-- What is moved out where an object goes: its record, if it has one. No object that may go stands in a list.
 abbrev pub removed : Option Record → Memo
 removed None = memo.Nothing
-removed (Some record_moved) = memo.Record record_moved
+removed (Some record_moved) = memo.Record record_moved None
 
 -- what a step moves out of a block
 abbrev pub memo_of : Step → Block → Memo
 memo_of (step.NewInst id name master terminals) b = memo.Grown (is_empty b.inst.free) (length terminals - length b.iterm.free)
 memo_of (step.NewNet id name) b = memo.Grown (is_empty b.net.free) 0
 memo_of (step.NewBTerm id name) b = memo.Grown (is_empty b.bterm.free) 0
+memo_of (step.NewRow id row) b = memo.Grown (is_empty b.row.free) 0
 memo_of (step.Del k id) b = removed (record_of k id b)
 memo_of (step.Rename k id name) b = memo.Name (unwrap_or (name_in k id b) [])
 memo_of (step.Swap inst master) b = memo.Swapped (master_of b inst) (inst_terms b inst)
@@ -109,7 +110,7 @@ next_moved other = None
 
 -- the record of the object that went, if one did
 abbrev pub record_moved : Memo → Option Record
-record_moved (memo.Record r) = Some r
+record_moved (memo.Record r next) = Some r
 record_moved other = None
 
 -- New terminals taken back, the last first. The first `reused` of them were free identifiers; each other one
@@ -135,6 +136,7 @@ abbrev pub back : Tag → Memo → Block → Block
 back (tag.NewInst id master) m c = unmade id (grew_of m) (grown_of m) c
 back (tag.NewNet id) m c = untaken_in kind.Net id (grew_of m) c
 back (tag.NewBTerm id) m c = untaken_in kind.BTerm id (grew_of m) c
+back (tag.NewRow id) m c = untaken_in kind.Row id (grew_of m) c
 back (tag.Del k id) m c = undeleted id (record_moved m) c
 back (tag.Rename k id) m c = with_name k id (name_moved m) c
 back (tag.Swap inst) m c = swapped inst (master_moved m) (terminals_moved m) c

@@ -11,6 +11,7 @@ use Rattle.library.specs.Masters.{master_at}
 use Rattle.library.specs.Terminals.{term_index}
 use Rattle.library.specs.declared.master.Master.{Master}
 use Rattle.tech.specs.Technology.{Technology}
+use Rattle.block_records.specs.declared.row.RowRec.{RowRec}
 use Rattle.edit_words.specs.declared.step.Step.{Step}
 use Rattle.edit_words.specs.declared.step.Step.TheVariants as step
 use Rattle.block_store.specs.Block.{Block, live_in, next_in}
@@ -20,6 +21,7 @@ use Rattle.block_store.specs.Names.{HasNames, IsFree}
 use Rattle.block_store.specs.BlockTerminals.{IsBTermDirection}
 use Rattle.block_store.specs.Instances.{term_count}
 use Rattle.block_store.specs.Placements.{IsPlacement}
+use Rattle.block_store.specs.Rows.{IsRowRec}
 use Rattle.block_store.specs.Sound.{inst_terms, iterm_net, net_terms}
 
 -- these are the identifiers that a table gives next, in their order
@@ -39,6 +41,12 @@ pub record CanNewInst (library : List Master) (b : Block) (id : ℕ) (name : Lis
   pub fitted : term_count library master ≡ Some (length terminals)
   pub terms : AreNext terminals b.iterm
 
+-- a new row: the identifier is the next one, its fields are lawful, and no row has the name
+pub record CanNewRow (tech : Technology) (b : Block) (id : ℕ) (row : RowRec) : Type 0 where
+  pub next : id ≡ next_in kind.Row b
+  pub lawful : IsRowRec tech row
+  pub free : IsFree kind.Row row.name b
+
 -- none of these instance terminals is joined
 abbrev pub AreUnjoined : List ℕ → Block → Type 0
 AreUnjoined terminals b = (k id : ℕ) → slice_get terminals k ≡ Some id → iterm_net b id ≡ 0
@@ -49,6 +57,7 @@ CanDel b kind.Inst id = IsTrue (is_live b.inst id) × AreUnjoined (inst_terms b 
 CanDel b kind.ITerm id = ⊥
 CanDel b kind.Net id = IsTrue (is_live b.net id) × (net_terms b id ≡ [])
 CanDel b kind.BTerm id = net_in kind.BTerm id b ≡ Some 0
+CanDel b kind.Row id = IsTrue (is_live b.row id)
 CanDel b other id = ⊥
 
 -- another name for an object of a kind with names, which no object of the kind has
@@ -100,6 +109,7 @@ abbrev pub Can : Technology → List Master → Block → Step → Type 0
 Can tech library b (step.NewInst id name master terminals) = CanNewInst library b id name master terminals
 Can tech library b (step.NewNet id name) = CanName kind.Net b id name
 Can tech library b (step.NewBTerm id name) = CanName kind.BTerm b id name
+Can tech library b (step.NewRow id row) = CanNewRow tech b id row
 Can tech library b (step.Del k id) = CanDel b k id
 Can tech library b (step.Rename k id name) = CanRename b k id name
 Can tech library b (step.Swap inst master) = CanSwap library b inst master

@@ -81,6 +81,7 @@ do_step library (step.NewInst id name master terminals) b =
     taken_in (rec.Inst (fresh_inst name master terminals)) (record b { iterm = terms_taken id 0 terminals b.iterm })
 do_step library (step.NewNet id name) b = taken_in (rec.Net (fresh_net name)) b
 do_step library (step.NewBTerm id name) b = taken_in (rec.BTerm (fresh_bterm name)) b
+do_step library (step.NewRow id row) b = taken_in (rec.Row row) b
 do_step library (step.Del k id) b = deleted k id b
 do_step library (step.Rename k id name) b = with_name k id name b
 do_step library (step.Swap inst master) b = swapped inst master (reordered_by (inst_master library b inst) (master_at library master) (inst_terms b inst)) b

@@ -1,7 +1,7 @@
 //! What elementary steps do to instances, nets and terminals, and the ways back.
 //!
 //! A step changes a table, a list and a field together, and each call here makes one such change of a block, or
-//! takes one back: instances come and go with their terminals ([`instances`]), nets and block terminals come
+//! takes one back: instances come and go with their terminals ([`instances`]), nets, block terminals and rows come
 //! ([`nets`]), terminals are joined to nets and parted from them ([`joins`]), and instances get other masters
 //! ([`swaps`]). Contracts say what becomes of the block as a value. Nothing here judges whether a step may be
 //! done: each call asks for what it needs, and `block_steps` shows it.
@@ -12,5 +12,8 @@
 
 pub mod instances;
 pub mod joins;
+pub mod laws;
 pub mod nets;
 pub mod swaps;
+
+pub use laws::swaps_keep_names;

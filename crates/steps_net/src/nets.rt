@@ -1,4 +1,4 @@
-// Nets and terminals of the block come.
+// Nets, terminals of the block and rows come.
 ghost use Rattle.std.specs.Prelude.{◌≡◌, ◌≤◌, []};
 ghost use Rattle.odb_base.specs.declared.codes.kind.Kind.TheVariants as kind;
 ghost use Rattle.block_records.specs.declared.record.Record.TheVariants as rec;
@@ -8,7 +8,7 @@ ghost use Rattle.block_store.specs.Names.{IsFree};
 ghost use Rattle.edit_words.specs.declared.memo.Memo.TheVariants as memo;
 ghost use Rattle.steps_net.specs.Do.{fresh_bterm, fresh_net};
 
-use block_records::{BTermRec, NetRec, Record};
+use block_records::{BTermRec, NetRec, Record, RowRec};
 use block_store::block::Block;
 use edit_words::Memo;
 use odb_base::{Direction, Name, Steps, Text, Usage};
@@ -52,6 +52,21 @@ pub fn new_bterm<L: Ledger>(block: &mut Block, name: Name, moves: &mut Steps<L>)
         kept: no_words(block),
     };
     let taken = block.take(Record::BTerm(bterm), moves);
+    Memo::Grown {
+        object: taken.grew,
+        terminals: 0,
+    }
+}
+
+/// Puts a new row into its table, without properties.
+pub fn new_row<L: Ledger>(block: &mut Block, row: RowRec, moves: &mut Steps<L>) -> Memo
+    requires room { 1 ≤ block.old.room.row }
+    requires name { IsFree kind.Row row.name block.old.block }
+    ensures block { block.new.block ≡ taken_in (rec.Row row) block.old.block }
+    ensures memo { result ≡ memo.Grown (is_empty block.old.block.row.free) 0 }
+    ensures cap { block.new.cap ≡ block.old.cap }
+{
+    let taken = block.take(Record::Row(row), moves);
     Memo::Grown {
         object: taken.grew,
         terminals: 0,

@@ -68,6 +68,20 @@ fn tell_edit(out: &mut String, edit: &Edit) -> Result<(), AllocError> {
         Edit::NewBTerm { name, net } => {
             write!(out, "NewBTerm name={} net={net:?}", shown(name.bytes()))
         }
+        Edit::NewRow {
+            name,
+            site,
+            x,
+            y,
+            orientation,
+            sites,
+        } => {
+            let (name, site) = (shown(name.bytes()), shown(site.bytes()));
+            write!(
+                out,
+                "NewRow name={name} site={site} x={x} y={y} {orientation:?} {sites:?}"
+            )
+        }
         Edit::Rename { kind, id, name } => {
             write!(out, "Rename {kind:?} id={id} name={}", shown(name.bytes()))
         }
@@ -154,6 +168,18 @@ fn lines_and_what_they_ask_for(rt: HostRuntime) -> Result<(), Fail> {
             ("new_net *", "NewNet name=*"),
             ("new_bterm a", "NewBTerm name=a net=None"),
             ("new_bterm a 7", "NewBTerm name=a net=Some(7)"),
+            (
+                "new_row r unit 0 -2720 FS",
+                "NewRow name=r site=unit x=0 y=-2720 FS One",
+            ),
+            (
+                "new_row r unit 1 2 N 3 4",
+                "NewRow name=r site=unit x=1 y=2 N Counted { nx: 3, ny: 4 }",
+            ),
+            (
+                "new_row r unit 1 2 N 3 4 460 -5",
+                "NewRow name=r site=unit x=1 y=2 N Stepped { nx: 3, ny: 4, sx: 460, sy: -5 }",
+            ),
             ("destroy iterm 1", "Destroy ITerm id=1"),
             ("rename net 2 -", "Rename Net id=2 name=-"),
             ("swap 3 NAND2", "Swap inst=3 master=NAND2"),
@@ -216,6 +242,10 @@ fn lines_that_are_no_command(rt: HostRuntime) -> Result<(), Fail> {
             ("new_net a b", "BadWords"),
             ("new_bterm a 1 2", "BadWords"),
             ("new_bterm a -1", "BadWords"),
+            ("new_row r unit 0 0", "BadWords"),
+            ("new_row r unit 0 0 N 1", "BadWords"),
+            ("new_row r unit 0 0 N 1 1 5", "BadWords"),
+            ("new_row r unit 0 0 N 1 1 5 5 5", "BadWords"),
             ("destroy Inst 1", "BadWords"),
             ("place inst 1 PLACED 10 20 north", "BadWords"),
             ("set_use net 1 NONE", "BadWords"),

@@ -19,7 +19,7 @@ pub struct Row {
 }
 
 // Each with ample memory, so none of them ends for want of it.
-pub const ROWS: [Row; 26] = [
+pub const ROWS: [Row; 28] = [
     Row {
         script: b"",
         replies: b"",
@@ -200,5 +200,19 @@ pub const ROWS: [Row; 26] = [
         replies: b"refused 28 LefBuild BadPart 1\nok 0\nok 1\nrefused 28 LefBuild BadPart 1\nok 1\nrefused 28 LefBuild BadPart 1\n",
         saved: Saved::Nothing,
         status: Status::Refused,
+    },
+    // Rows: what is refused, in the order of the codes and of the words.
+    Row {
+        script: b"site unit CORE 460 2720\nnew_row r unit 2000000001 0 N 0 0\nnew_row r unit 0 -2000000001 N\nnew_row r unit 0 0 N 0 1\nnew_row r unit 0 0 N 1 1000001\nnew_row r unit 0 0 N 1 1 2000000001 0\nnew_row r unit 0 0 N 1 1 0 -2000000001\nnew_row ; unit 0 0 N -1 1\nnew_row ; pad 0 0 N\nnew_row r pad 0 0 N\nnew_row r unit 0 0 N\nnew_row r unit 0 0 N\nplace row 1 PLACED 0 0 N\n",
+        replies: b"ok 1\nrefused 3 BadValue 3\nrefused 3 BadValue 4\nrefused 3 BadValue 6\nrefused 3 BadValue 7\nrefused 3 BadValue 8\nrefused 3 BadValue 9\nrefused 3 BadValue 6\nrefused 4 BadName 1\nrefused 5 Unknown 2\nok 1 1 0 0 0\nrefused 6 NameTaken 1\nrefused 3 BadValue 1\n",
+        saved: Saved::Nothing,
+        status: Status::Refused,
+    },
+    // Rows are made, renamed, destroyed, saved and loaded, and an undo takes all of it back.
+    Row {
+        script: b"site unit CORE 460 2720\nnew_row a unit 0 0 N\nnew_row b unit 0 2720 FS 1000 1\nnew_row c unit -5 5440 N 2 3 460 2720\neco_begin\nrename row 1 d\ndestroy row 2\nnew_row b unit 0 0 S\nlist row\nfree row\nsave f\neco_undo\nlist row\nload f\nlist row\nfind row b\ncounts\n",
+        replies: b"ok 1\nok 1 1 0 0 0\nok 2 1 0 0 0\nok 3 1 0 0 0\nok\nok 0 1 0 0 0\nok 0 1 0 0 0\nok 2 1 0 0 0\nok 3\n1 d\n2 b\n3 c\nok 3 3\nok 286\nok 3\nok 3\n1 a\n2 b\n3 c\nok 286\nok 3\n1 d\n2 b\n3 c\nok 2\nok 0 0 0 0 0 3 0 0 0 0 0 0\n",
+        saved: Saved::Nothing,
+        status: Status::Done,
     },
 ];

@@ -9,7 +9,7 @@ pub returns-clause-sound : goal.returns-clause-sound
 returns-clause-sound g c =
     let s = c.args.step in
     let old = c.args.block.now in
-    let room : lacks s old.cap old.block ≡ None = room_suffices s old c.requires.ready c.count_room.ensures.inst c.count_room.ensures.iterm c.count_room.ensures.net c.count_room.ensures.bterm in
+    let room : lacks s old.cap old.block ≡ None = room_suffices s old c.requires.ready c.count_room.ensures.inst c.count_room.ensures.iterm c.count_room.ensures.net c.count_room.ensures.bterm c.count_room.ensures.row in
     rw (c.do_one.ensures.cap, c.do_one.ensures.after) (sound_step _ _ _ _ s c.requires.sound c.requires.can room)
 
 pub returns-clause-back : goal.returns-clause-back

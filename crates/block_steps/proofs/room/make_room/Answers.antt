@@ -13,6 +13,12 @@ returns-in-NewNet-clause-full c =
     subst (λ s. IfErr c.room.result (λ e. (j : Kind) → e ≡ fault.Full j → lacks s old.cap old.block ≡ Some j)) (sym c.in-NewNet.is)
     (full_told kind.Net 1 old.cap old.block None c.room.result c.room.ensures.full c.room.ensures.kind)
 
+pub returns-in-NewRow-clause-full : goal.returns-in-NewRow-clause-full
+returns-in-NewRow-clause-full c =
+    let old = c.args.block.now in
+    subst (λ s. IfErr c.room-in-NewRow.result (λ e. (j : Kind) → e ≡ fault.Full j → lacks s old.cap old.block ≡ Some j)) (sym c.in-NewRow.is)
+    (full_told kind.Row 1 old.cap old.block None c.room-in-NewRow.result c.room-in-NewRow.ensures.full c.room-in-NewRow.ensures.kind)
+
 pub returns-in-NewBTerm-clause-full : goal.returns-in-NewBTerm-clause-full
 returns-in-NewBTerm-clause-full c =
     let old = c.args.block.now in
