@@ -7,6 +7,7 @@ ghost use Rattle.block_store.specs.Tables.{IsTable};
 ghost use Rattle.block_store.specs.Store.{ChangesRoom, IsRoomBounded, room_of};
 
 use crate::entry::{BTermEntry, GroupEntry, InstEntry, NetEntry, RegionEntry, RowEntry};
+use crate::every_kind::by_kind;
 use crate::fault::RoomFault;
 use crate::tables::{PlainTable, Tables};
 use block_records::{BlockageRec, Header, ITermRec, PinRec, PropRec, TrackRec, WireRec};
@@ -187,40 +188,14 @@ impl Block {
         ensures within { slots_in kind self.now.block ≤ self.now.cap }
         ensures bounds { IsRoomBounded kind self.now }
     {
-        match kind {
-            Kind::Inst => self.inst.slots(),
-            Kind::ITerm => self.iterm.slots(),
-            Kind::Net => self.net.slots(),
-            Kind::BTerm => self.bterm.slots(),
-            Kind::Pin => self.pin.slots(),
-            Kind::Row => self.row.slots(),
-            Kind::Track => self.track.slots(),
-            Kind::Wire => self.wire.slots(),
-            Kind::Blockage => self.blockage.slots(),
-            Kind::Region => self.region.slots(),
-            Kind::Group => self.group.slots(),
-            Kind::Prop => self.prop.slots(),
-        }
+        by_kind!(self, kind, table => table.slots())
     }
 
     /// Whether the identifier has an object of the kind.
     pub fn live(&self, kind: Kind, id: u32) -> bool
         ensures { result ≡ live_in kind id self.now.block }
     {
-        match kind {
-            Kind::Inst => self.inst.live(id),
-            Kind::ITerm => self.iterm.live(id),
-            Kind::Net => self.net.live(id),
-            Kind::BTerm => self.bterm.live(id),
-            Kind::Pin => self.pin.live(id),
-            Kind::Row => self.row.live(id),
-            Kind::Track => self.track.live(id),
-            Kind::Wire => self.wire.live(id),
-            Kind::Blockage => self.blockage.live(id),
-            Kind::Region => self.region.live(id),
-            Kind::Group => self.group.live(id),
-            Kind::Prop => self.prop.live(id),
-        }
+        by_kind!(self, kind, table => table.live(id))
     }
 
     /// Makes room for `n` new objects of a kind. `Full` comes exactly where the cap doesn't allow so many.
@@ -234,20 +209,7 @@ impl Block {
         ensures room { room_of kind self.old.room ≤ room_of kind self.new.room }
         ensures others { ChangesRoom kind self.old.room self.new.room }
     {
-        let made = match kind {
-            Kind::Inst => self.inst.reserve(n),
-            Kind::ITerm => self.iterm.reserve(n),
-            Kind::Net => self.net.reserve(n),
-            Kind::BTerm => self.bterm.reserve(n),
-            Kind::Pin => self.pin.reserve(n),
-            Kind::Row => self.row.reserve(n),
-            Kind::Track => self.track.reserve(n),
-            Kind::Wire => self.wire.reserve(n),
-            Kind::Blockage => self.blockage.reserve(n),
-            Kind::Region => self.region.reserve(n),
-            Kind::Group => self.group.reserve(n),
-            Kind::Prop => self.prop.reserve(n),
-        };
+        let made = by_kind!(mut self, kind, table => table.reserve(n));
         match made {
             Ok(()) => Ok(()),
             Err(PoolFault::Full) => Err(RoomFault::Full { kind }),

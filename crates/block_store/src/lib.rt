@@ -23,6 +23,7 @@
 pub mod block;
 pub mod database;
 pub mod entry;
+mod every_kind;
 pub mod fault;
 pub mod fields;
 pub mod free_ids;

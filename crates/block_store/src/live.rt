@@ -4,6 +4,7 @@ ghost use Rattle.block_store.specs.Block.{free_in, slots_in};
 ghost use Rattle.block_store.specs.Live.{live_count_in, live_ids};
 
 use crate::block::Block;
+use crate::every_kind::by_kind;
 use odb_base::Kind;
 use std::marker::Model;
 
@@ -64,19 +65,6 @@ impl Block {
         ensures count { result ≡ live_count_in kind self.now.block }
         ensures others { result + length (free_in kind self.now.block) ≡ slots_in kind self.now.block }
     {
-        match kind {
-            Kind::Inst => self.inst.live_count(),
-            Kind::ITerm => self.iterm.live_count(),
-            Kind::Net => self.net.live_count(),
-            Kind::BTerm => self.bterm.live_count(),
-            Kind::Pin => self.pin.live_count(),
-            Kind::Row => self.row.live_count(),
-            Kind::Track => self.track.live_count(),
-            Kind::Wire => self.wire.live_count(),
-            Kind::Blockage => self.blockage.live_count(),
-            Kind::Region => self.region.live_count(),
-            Kind::Group => self.group.live_count(),
-            Kind::Prop => self.prop.live_count(),
-        }
+        by_kind!(self, kind, table => table.live_count())
     }
 }

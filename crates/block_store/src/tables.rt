@@ -4,6 +4,7 @@ ghost use Rattle.block_store.specs.Block.{empty_table, slots_in};
 ghost use Rattle.block_store.specs.Tables.{IsTable};
 
 use crate::entry::{BTermEntry, GroupEntry, InstEntry, NetEntry, RegionEntry, RowEntry};
+use crate::every_kind::by_kind;
 use block_records::{BlockageRec, Header, ITermRec, PinRec, PropRec, TrackRec, WireRec};
 use odb_base::Kind;
 use slot_pool::SlotPool;
@@ -114,19 +115,6 @@ impl Tables {
     pub fn slots(&self, kind: Kind) -> usize
         ensures { result ≡ slots_in kind self.now }
     {
-        match kind {
-            Kind::Inst => self.inst.slots.len(),
-            Kind::ITerm => self.iterm.slots.len(),
-            Kind::Net => self.net.slots.len(),
-            Kind::BTerm => self.bterm.slots.len(),
-            Kind::Pin => self.pin.slots.len(),
-            Kind::Row => self.row.slots.len(),
-            Kind::Track => self.track.slots.len(),
-            Kind::Wire => self.wire.slots.len(),
-            Kind::Blockage => self.blockage.slots.len(),
-            Kind::Region => self.region.slots.len(),
-            Kind::Group => self.group.slots.len(),
-            Kind::Prop => self.prop.slots.len(),
-        }
+        by_kind!(self, kind, table => table.slots.len())
     }
 }
