@@ -6,6 +6,8 @@ mod fields;
 #[cfg(test)]
 mod indexes;
 #[cfg(test)]
+mod kinds_and_numbers;
+#[cfg(test)]
 mod limits;
 #[cfg(test)]
 mod links;

@@ -27,7 +27,7 @@ impl Model for FileName {
 
 impl FileName {
     /// The name that a word is. `BadWords` comes where it is none.
-    #[tactic(auto, using(crate::proofs::FileNames::is_text), unfolding(crate::specs::Forms::file_named))]
+    #[tactic(auto, unfolding(crate::specs::Forms::file_named))]
     pub fn new(alloc: Global, word: &[u8]) -> Result<FileName, LineFault>
         ensures { IsNamed (file_named word.now) result }
     {

@@ -1,9 +1,9 @@
 ghost use Rattle.std.specs.Prelude.{◌≡◌};
-ghost use Rattle.script_words.specs.Verb.{verb_named, verb_word, verbs};
+ghost use Rattle.script_words.specs.Verb.{verb_named, verb_word};
 
 use odb_base::Worded;
 
-/// What the first word of a line tells to do.
+/// What the first word of a line tells to do: a verb for each line form.
 #[derive(Clone, Copy, Debug, PartialEq, Eq)]
 pub enum Verb {
     NewInst,
