@@ -14,16 +14,15 @@ use Rattle.block_tables.specs.Rules.{IsSoundHeader, IsSoundKind, IsSoundRecord, 
 use Rattle.block_tables.proofs.Beyond.{at_zero, past_slots}
 use Rattle.block_tables.proofs.KindOrder.{code_of_item, codes_within, same_kind}
 use Rattle.block_tables.proofs.Parts.{sound_by_parts}
-use Rattle.saved_reader.specs.declared.fault.ReadFault.{ReadFault}
-use Rattle.saved_reader.specs.declared.fault.ReadFault.TheVariants as read
 use Rattle.saved_reader.specs.declared.saved.Saved.{Saved}
+use Rattle.saved_reader.specs.Fault as read
+use Rattle.saved_reader.specs.Fault.{Fault}
 use Rattle.saved_reader.specs.Saved.{saved_in}
 use Rattle.odb_save.specs.declared.load_fault.LoadFault.TheVariants as load
 use Rattle.odb_save.specs.Design.{IsDesign}
 use Rattle.odb_save.specs.Loading.{HasAnAnswer, IsLeastUnsound}
 use Rattle.odb_save.specs.Spelled.{database_of}
 use Rattle.odb_save.proofs.Loads.{loaded}
-use Rattle.odb_save.proofs.ReadFaults.{ReadsBytes, saved_reads}
 
 -- ---- what can't fail to be
 
@@ -182,15 +181,14 @@ module _ (cap : ℕ) (bytes : List ℕ) (within : cap ≤ 16777215) (are : AreBy
   of_saved s spelled (inr not) none =
       least_unsound cap s within not (λ least. none (Err (load.Unsound least.0 least.1)) (record { saved = s; read = spelled; place = record { unsound = not; least = least.2 } }))
 
-  of_read : (read : Result Saved ReadFault) → saved_in cap bytes ≡ read → ReadsBytes read → HasAnAnswer cap bytes
-  of_read (Ok s) spelled of none = surely_either (IsSoundDatabase (database_of cap s)) (λ judged. of_saved s spelled judged none)
-  of_read (Err read.NotSaved) spelled of none = none (Err load.NotSaved) spelled
-  of_read (Err (read.Version got)) spelled of none = none (Err (load.Version got)) spelled
-  of_read (Err (read.Cut at)) spelled of none = none (Err (load.Cut at)) spelled
-  of_read (Err (read.BadField at)) spelled of none = none (Err (load.BadField at)) spelled
-  of_read (Err (read.OverCap k)) spelled of none = none (Err (load.OverCap k)) spelled
-  of_read (Err (read.Trailing at)) spelled of none = none (Err (load.Trailing at)) spelled
-  of_read (Err read.Memory) spelled of none = of
+  of_read : (read : Result Saved Fault) → saved_in cap bytes ≡ read → HasAnAnswer cap bytes
+  of_read (Ok s) spelled none = surely_either (IsSoundDatabase (database_of cap s)) (λ judged. of_saved s spelled judged none)
+  of_read (Err read.NotSaved) spelled none = none (Err load.NotSaved) spelled
+  of_read (Err (read.Version got)) spelled none = none (Err (load.Version got)) spelled
+  of_read (Err (read.Cut at)) spelled none = none (Err (load.Cut at)) spelled
+  of_read (Err (read.BadField at)) spelled none = none (Err (load.BadField at)) spelled
+  of_read (Err (read.OverCap k)) spelled none = none (Err (load.OverCap k)) spelled
+  of_read (Err (read.Trailing at)) spelled none = none (Err (load.Trailing at)) spelled
 
   pub has_an_answer : HasAnAnswer cap bytes
-  has_an_answer = of_read (saved_in cap bytes) refl (saved_reads cap bytes)
+  has_an_answer = of_read (saved_in cap bytes) refl

@@ -1,13 +1,10 @@
 pub mod Answerable
-pub mod Appending
 pub mod Designs
+pub mod Distinct
+pub mod EntryLemmas
 pub mod Fitting
 pub mod LeastPlaces
 pub mod Loads
-pub mod OtherRecords
-pub mod ReadFaults
-pub mod Readable
 pub mod SoundFields
-pub mod TechRecords
 pub mod Whole
 pub mod Written

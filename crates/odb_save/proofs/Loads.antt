@@ -7,14 +7,16 @@ use Rattle.block_tables.specs.Causes.{IsRefusal}
 use Rattle.block_tables.specs.declared.fault.TablesFault.{TablesFault}
 use Rattle.block_tables.specs.declared.fault.TablesFault.TheVariants as tables
 use Rattle.saved_reader.specs.declared.fault.ReadFault.{ReadFault}
-use Rattle.saved_reader.specs.declared.fault.ReadFault.TheVariants as read
+use Rattle.saved_reader.specs.declared.fault.ReadFault.TheVariants as told
 use Rattle.saved_reader.specs.declared.saved.Saved.{Saved}
+use Rattle.saved_reader.specs.Fault as read
+use Rattle.saved_reader.specs.Fault.{Fault}
 use Rattle.saved_reader.specs.Reading.{Fails}
 use Rattle.saved_reader.specs.Saved.{saved_in}
 use Rattle.odb_save.specs.declared.load_fault.LoadFault.{LoadFault}
 use Rattle.odb_save.specs.declared.load_fault.LoadFault.TheVariants as load
 use Rattle.odb_save.specs.Design.{IsDesign}
-use Rattle.odb_save.specs.LoadFaults.{of_read, of_tables}
+use Rattle.odb_save.specs.LoadFaults.{of_bytes, of_read, of_tables}
 use Rattle.odb_save.specs.Loading.{HasLoadCause, HasOneAnswer, IsDesignFault, IsLoadAnswer, IsLoaded, IsLoadedAs, IsPartFault, IsUnsoundAt, Loads}
 use Rattle.odb_save.specs.Save.{content_bytes, save_bytes}
 use Rattle.odb_save.specs.Spelled.{database_of, spelled}
@@ -49,7 +51,7 @@ module _ (cap : ℕ) (bytes : List ℕ) where
   cause_of_part s e fault h = absurd h
 
   cause_of_read : (fault : ReadFault) → Fails fault (saved_in cap bytes) → HasLoadCause cap bytes (of_read fault)
-  cause_of_read read.Memory h = tt
+  cause_of_read told.Memory h = tt
   cause_of_read fault h = h
 
   -- ---- answers
@@ -77,8 +79,8 @@ module _ (cap : ℕ) (bytes : List ℕ) where
 -- ---- one answer
 
 -- the answer is that of what reading gives
-abbrev IsAnswerTo : ℕ → Result Saved ReadFault → Result Database LoadFault → Type 0
-IsAnswerTo cap (Err fault) answer = answer ≡ Err (of_read fault)
+abbrev IsAnswerTo : ℕ → Result Saved Fault → Result Database LoadFault → Type 0
+IsAnswerTo cap (Err fault) answer = answer ≡ Err (of_bytes fault)
 IsAnswerTo cap (Ok s) (Ok d) = IsSoundDatabase (database_of cap s) × (d ≡ database_of cap s)
 IsAnswerTo cap (Ok s) (Err (load.Unsound kind id)) = IsUnsoundAt cap s kind id
 IsAnswerTo cap (Ok s) (Err fault) = ⊥
@@ -92,7 +94,7 @@ loaded_is_read : (cap : ℕ) (bytes : List ℕ) (d : Database) → IsLoaded cap 
 loaded_is_read cap bytes d h =
     ap (λ (n : ℕ). saved_in n bytes) (sym h.capped) ∙ ap (λ (l : List ℕ). saved_in d.cap l) h.saved ∙ written_is_read d h.sound
 
-answer_to : (cap : ℕ) (bytes : List ℕ) (r : Result Saved ReadFault) (a : Result Database LoadFault) → saved_in cap bytes ≡ r → Loads cap bytes a → IsAnswerTo cap r a
+answer_to : (cap : ℕ) (bytes : List ℕ) (r : Result Saved Fault) (a : Result Database LoadFault) → saved_in cap bytes ≡ r → Loads cap bytes a → IsAnswerTo cap r a
 answer_to cap bytes (Ok s) (Ok d) e h =
     let read = loaded_is_read cap bytes d h in
     let same : spelled d ≡ s = cc in
@@ -108,15 +110,15 @@ answer_to cap bytes (Err f) (Err (load.Unsound kind id)) e h = let read = h.read
 answer_to cap bytes (Ok s) (Err load.Memory) e h = absurd h
 answer_to cap bytes (Err f) (Err load.Memory) e h = absurd h
 answer_to cap bytes (Ok s) (Err fault) e h = absurd cc
-answer_to cap bytes (Err f) (Err load.NotSaved) e h = let same : read.NotSaved ≡ f = cc in ap (λ (g : ReadFault). Err (of_read g)) same
-answer_to cap bytes (Err f) (Err (load.Version got)) e h = let same : read.Version got ≡ f = cc in ap (λ (g : ReadFault). Err (of_read g)) same
-answer_to cap bytes (Err f) (Err (load.Cut at)) e h = let same : read.Cut at ≡ f = cc in ap (λ (g : ReadFault). Err (of_read g)) same
-answer_to cap bytes (Err f) (Err (load.BadField at)) e h = let same : read.BadField at ≡ f = cc in ap (λ (g : ReadFault). Err (of_read g)) same
-answer_to cap bytes (Err f) (Err (load.OverCap kind)) e h = let same : read.OverCap kind ≡ f = cc in ap (λ (g : ReadFault). Err (of_read g)) same
-answer_to cap bytes (Err f) (Err (load.Trailing at)) e h = let same : read.Trailing at ≡ f = cc in ap (λ (g : ReadFault). Err (of_read g)) same
+answer_to cap bytes (Err f) (Err load.NotSaved) e h = let same : read.NotSaved ≡ f = cc in ap (λ (g : Fault). Err (of_bytes g)) same
+answer_to cap bytes (Err f) (Err (load.Version got)) e h = let same : read.Version got ≡ f = cc in ap (λ (g : Fault). Err (of_bytes g)) same
+answer_to cap bytes (Err f) (Err (load.Cut at)) e h = let same : read.Cut at ≡ f = cc in ap (λ (g : Fault). Err (of_bytes g)) same
+answer_to cap bytes (Err f) (Err (load.BadField at)) e h = let same : read.BadField at ≡ f = cc in ap (λ (g : Fault). Err (of_bytes g)) same
+answer_to cap bytes (Err f) (Err (load.OverCap kind)) e h = let same : read.OverCap kind ≡ f = cc in ap (λ (g : Fault). Err (of_bytes g)) same
+answer_to cap bytes (Err f) (Err (load.Trailing at)) e h = let same : read.Trailing at ≡ f = cc in ap (λ (g : Fault). Err (of_bytes g)) same
 
 -- answers to the same are equal
-agree : (cap : ℕ) (r : Result Saved ReadFault) (a b : Result Database LoadFault) → IsAnswerTo cap r a → IsAnswerTo cap r b → a ≡ b
+agree : (cap : ℕ) (r : Result Saved Fault) (a b : Result Database LoadFault) → IsAnswerTo cap r a → IsAnswerTo cap r b → a ≡ b
 agree cap (Err f) a b h g = h ∙ sym g
 agree cap (Ok s) (Ok d) (Ok e) h g = ap (λ (x : Database). Ok x) (h.1 ∙ sym g.1)
 agree cap (Ok s) (Ok d) (Err (load.Unsound kind id)) h g = absurd (g.unsound h.0)

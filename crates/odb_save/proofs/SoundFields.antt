@@ -1,5 +1,5 @@
--- The fields of a sound database are lawful, each by itself.
-use Rattle.std.proofs.Common.{◌≡◌, ◌&&◌, Bool, ◌<◌, ◌≤◌, ◌^◌, ◌+◌, ◌-◌, ◌⊎◌, true, eqb, leb, ℕ, zero, suc, ℤ, pos, negsuc, List, [], ◌∷◌, length, slice_get, Option, Some, None, is_some, refl, sym, ap, subst, ◌∙◌, arith, inl, inr}
+-- The fields of a sound database are lawful, each by itself. What soundness says is read here alone.
+use Rattle.std.proofs.Common.{◌≡◌, ◌&&◌, Bool, ◌<◌, ◌≤◌, ◌^◌, ◌+◌, ◌*◌, ◌-◌, ◌/◌, ◌⊎◌, true, eqb, leb, ℕ, zero, suc, ℤ, pos, negsuc, List, [], ◌∷◌, length, slice_get, Option, Some, None, is_some, refl, sym, ap, subst, ◌∙◌, arith, inl, inr}
 use Rattle.std.specs.Prelude.{FitsSigned, is_none}
 use Rattle.std.specs.Int.{w32}
 use Rattle.std.specs.List.{AllByRecursion}
@@ -18,6 +18,8 @@ use Rattle.odb_base.specs.declared.codes.kind.Kind.TheVariants as kind
 use Rattle.odb_base.specs.declared.codes.orient.Orient.{Orient}
 use Rattle.odb_base.specs.declared.codes.place_status.PlaceStatus.{PlaceStatus}
 use Rattle.odb_base.specs.declared.codes.place_status.PlaceStatus.TheVariants as status
+use Rattle.odb_base.specs.declared.codes.row_form.RowForm.{RowForm}
+use Rattle.odb_base.specs.declared.codes.row_form.RowForm.TheVariants as form
 use Rattle.odb_base.specs.declared.geometry.Placement.{Placement}
 use Rattle.odb_base.specs.declared.geometry.Rect.{Rect}
 use Rattle.odb_base.specs.declared.geometry.Shape.{Shape}
@@ -26,7 +28,7 @@ use Rattle.odb_base.proofs.Splits.{eqb-refl}
 use Rattle.block_records.specs.Header.{new_header}
 use Rattle.block_records.specs.declared.header.Header.{Header}
 use Rattle.block_records.specs.declared.iterm.ITermRec.{ITermRec}
-use Rattle.block_store.specs.Block.{empty_table}
+use Rattle.block_store.specs.Block.{Block, empty_table, free_in}
 use Rattle.block_store.specs.declared.entry.BTermEntry.{BTermEntry}
 use Rattle.block_store.specs.declared.entry.InstEntry.{InstEntry}
 use Rattle.block_store.specs.declared.entry.NetEntry.{NetEntry}
@@ -42,28 +44,40 @@ use Rattle.block_store.specs.Lists.{bterm_number, iterm_number, list_in}
 use Rattle.block_store.specs.BlockTerminals.{IsBTermDirection}
 use Rattle.block_store.specs.Instances.{term_count}
 use Rattle.block_store.specs.Placements.{IsPlacement, unplaced}
-use Rattle.block_store.specs.Sound.{inst_terms, iterm_place, net_terms}
+use Rattle.block_store.specs.Sound.{IsSound, bterm_net, inst_terms, iterm_net, iterm_place, net_terms}
 use Rattle.block_store.specs.Tables.{AreEach, IsTable}
+use Rattle.block_store.proofs.TableLemmas.{none_in_empty}
 use Rattle.block_store.proofs.Held.{times_held}
-use Rattle.block_store.proofs.Joined.{bterm_inside, from_one, iterm_inside, net_of_member, shown_by}
-use Rattle.block_store.proofs.Shown.{live_by}
+use Rattle.block_store.proofs.Joined.{bterm_inside, bterms_held, iterm_inside, iterms_held, net_of_member, number_is, shown_by, terms_distinct, terms_placed}
+use Rattle.block_store.proofs.Shown.{from_one, live_by}
 use Rattle.block_store.proofs.Slots.{record_at_place}
 use Rattle.library.specs.Masters.{master_at}
 use Rattle.library.specs.declared.master.Master.{Master}
 use Rattle.library.specs.declared.mterm.MTerm.{MTerm}
-use Rattle.slot_pool.specs.Table.{Table, is_vacant, record_at}
+use Rattle.slot_pool.specs.Table.{Table, is_vacant, once_if, record_at, times}
 use Rattle.slot_pool.proofs.Counts.{live_within, vacant_within}
+use Rattle.block_store.specs.Rows.{IsRepeated, IsSiteCount}
+use Rattle.saved_reader.specs.Sites.{may_step}
 use Rattle.saved_reader.specs.Fields as field
 use Rattle.saved_reader.specs.Parts.{is_built, may_have}
-use Rattle.saved_reader.proofs.Compound.{IsPlacementFields, IsRectFields, IsTableOf}
-use Rattle.saved_reader.proofs.Counted.{IsList, IsOption}
-use Rattle.saved_reader.proofs.Single.{IsId, IsNameText, IsNumber, IsSmall}
 use Rattle.odb_save.specs.Spelled.{spelled}
-use Rattle.odb_save.proofs.Fitting.{few_terminals, good_few, once_true, terms_few, terms_up_to}
-use Rattle.odb_save.proofs.OtherRecords.{IsBlockageFields, IsGroupFields, IsPinFields, IsPropFields, IsRegionFields, IsRowFields, IsTrackFields, IsWireFields}
-use Rattle.odb_save.proofs.Readable.{IsAnyText, IsBTermFields, IsBlockDirection, IsExtent, IsITermFields, IsInstFields, IsMTermFields, IsMasterFields, IsNetFields, IsNoText, IsShapeFields, IsTerm}
-use Rattle.odb_save.proofs.TechRecords.{IsLayerFields, IsSiteFields, IsTechFields, IsViaFields}
-use Rattle.odb_save.proofs.Whole.{IsBuiltFields, IsHeaderFields, IsOtherFields, IsSavedFields}
+use Rattle.slot_pool.proofs.Counted.{fewer_free}
+use Rattle.block_store.specs.PlainTables.{AreTables}
+use Rattle.block_tables.proofs.Made.{are_tables}
+use Rattle.block_tables.proofs.Parts.{sound_by_parts}
+use Rattle.saved_reader.specs.Fits.{IsShort}
+use Rattle.saved_reader.specs.Grouping.{group_format, prop_format, region_format}
+use Rattle.saved_reader.specs.Header.{header_format}
+use Rattle.saved_reader.specs.Lawful.{IsDistance, IsId, IsList, IsNameText, IsNumber, IsOption, IsPlacementFields, IsRectFields, IsSites, IsSmall, IsTableOf, IsTerm, IsText}
+use Rattle.saved_reader.specs.Library.{extent_field, extent_of, library_format, master_format, mterm_format}
+use Rattle.saved_reader.specs.Objects.{block_direction_field, bterm_format, inst_format, is_of_block, iterm_format, net_format}
+use Rattle.saved_reader.specs.PartFormats.{shape_format}
+use Rattle.saved_reader.specs.Physical.{blockage_format, pin_format, row_format, track_format, wire_format}
+use Rattle.saved_reader.specs.Saved.{block_format, block_parts, built_format, others_format}
+use Rattle.saved_reader.specs.Technology.{layer_format, site_format, tech_format, via_format, via_name_field}
+use Rattle.odb_save.proofs.Distinct.{AreUpTo, length-distinct}
+use Rattle.odb_save.proofs.Fitting.{few_terminals, named_within, once_true}
+use Rattle.odb_save.proofs.Whole.{IsSavedFields}
 
 -- ---- lists
 
@@ -89,11 +103,15 @@ number least most n low high small = (between least most n low high, omega arith
 zero_is : (n : ℕ) → n ≡ 0 → IsNumber 0 0 n
 zero_is n e = number 0 0 n (omega arith) (omega arith) (omega arith)
 
-any_text : (bytes : List ℕ) → length bytes < 2 ^ 32 → IsAnyText bytes
+any_text : (bytes : List ℕ) → length bytes < 2 ^ 32 → IsText 0 4294967295 bytes
 any_text bytes short = (number 0 4294967295 (length bytes) (omega arith) (omega (arith, short)) (omega arith), tt)
 
-no_text : (bytes : List ℕ) → bytes ≡ [] → IsNoText bytes
+no_text : (bytes : List ℕ) → bytes ≡ [] → IsText 0 0 bytes
 no_text bytes none = (zero_is (length bytes) (ap length none), tt)
+
+-- no identifiers yet
+no_ids : (ids : List ℕ) → ids ≡ [] → IsList 0 IsId ids
+no_ids ids none = (zero_is (length ids) (ap length none), (let P : List ℕ → Type 0 = AllByRecursion IsId in subst P (sym none) tt))
 
 name_some : (bytes : List ℕ) → IsName bytes → 1 ≤ length bytes
 unfolding name_fault
@@ -155,55 +173,63 @@ rect_fields r is =
     (((coordinate_is r.xl is.xl, coordinate_is r.yl is.yl), from r.xl r.xh is.xh wide), from r.yl r.yh is.yh high)
 
 module _ (t : Technology) (lawful : IsTechnology t) where
-  shape_fields : (s : Shape) → IsShape t s → IsShapeFields s
+  shape_fields : (s : Shape) → IsShape t s → shape_format.Has s
+  unfolding shape_format
   shape_fields s is = (omega (arith, is.layer.1, lawful.few.layers), rect_fields s.rect is.rect)
 
-  shapes_fields : (shapes : List Shape) → AreShapes t shapes → IsList 1000000 IsShapeFields shapes
+  shapes_fields : (shapes : List Shape) → AreShapes t shapes → IsList 1000000 shape_format.Has shapes
   shapes_fields shapes are =
-      (number 0 1000000 (length shapes) (omega arith) are.few (omega arith), each_by IsShapeFields shapes (λ i s at. shape_fields s (are.each i s at)))
+      (number 0 1000000 (length shapes) (omega arith) are.few (omega arith), each_by shape_format.Has shapes (λ i s at. shape_fields s (are.each i s at)))
 
   -- ---- the technology
 
-  layer_fields : (l : Layer) → IsLayer l → IsLayerFields l
+  layer_fields : (l : Layer) → IsLayer l → layer_format.Has l
+  unfolding layer_format
   layer_fields l is =
       ((((((name_text l.name is.name, tt), tt), coordinate_is l.pitch_x is.pitch_x), coordinate_is l.pitch_y is.pitch_y), coordinate_is l.width is.width), coordinate_is l.spacing is.spacing)
 
-  via_fields : (v : TechVia) → IsTechVia t v → IsViaFields v
+  via_fields : (v : TechVia) → IsTechVia t v → via_format.Has v
+  unfolding via_format via_name_field
   via_fields v is = (((ap is_none is.name.no_orient, name_text v.name is.name.lawful), tt), shapes_fields v.shapes is.shapes)
 
-  site_fields : (s : Site) → IsSite s → IsSiteFields s
+  site_fields : (s : Site) → IsSite s → site_format.Has s
+  unfolding site_format
   site_fields s is =
       ((((name_text s.name is.name, tt), (between 0 7 s.symmetry.0 (omega arith) (omega (arith, is.symmetry)), omega (arith, is.symmetry))), coordinate_is s.width is.width), coordinate_is s.height is.height)
 
-  tech_fields : IsTechFields t
+  tech_fields : tech_format.Has t
+  unfolding tech_format
   tech_fields = (
     (
       (
         number 0 100000 t.units (omega arith) lawful.units (omega arith),
-        (number 0 1000000 (length t.layers) (omega arith) lawful.few.layers (omega arith), each_by IsLayerFields t.layers (λ i l at. layer_fields l (lawful.layers i l at))),
+        (number 0 1000000 (length t.layers) (omega arith) lawful.few.layers (omega arith), each_by layer_format.Has t.layers (λ i l at. layer_fields l (lawful.layers i l at))),
       ),
-      (number 0 1000000 (length t.vias) (omega arith) lawful.few.vias (omega arith), each_by IsViaFields t.vias (λ i v at. via_fields v (lawful.vias i v at))),
+      (number 0 1000000 (length t.vias) (omega arith) lawful.few.vias (omega arith), each_by via_format.Has t.vias (λ i v at. via_fields v (lawful.vias i v at))),
     ),
-    (number 0 1000000 (length t.sites) (omega arith) lawful.few.sites (omega arith), each_by IsSiteFields t.sites (λ i s at. site_fields s (lawful.sites i s at))),
+    (number 0 1000000 (length t.sites) (omega arith) lawful.few.sites (omega arith), each_by site_format.Has t.sites (λ i s at. site_fields s (lawful.sites i s at))),
   )
 
   -- ---- masters
 
-  mterm_fields : (m : MTerm) → IsMTerm t m → IsMTermFields m
+  mterm_fields : (m : MTerm) → IsMTerm t m → mterm_format.Has m
+  unfolding mterm_format
   mterm_fields m is = (((name_text m.name is.name, tt), tt), shapes_fields m.shapes is.shapes)
 
-  master_fields : (m : Master) → IsMaster t m → IsMasterFields m
+  master_fields : (m : Master) → IsMaster t m → master_format.Has m
+  unfolding master_format extent_field
   master_fields m is =
       let small : IsSmall 7 m.symmetry = (between 0 7 m.symmetry (omega arith) (omega (arith, is.symmetry)), omega (arith, is.symmetry)) in
-      let extent : IsExtent m = (((coordinate_is m.origin_x is.origin_x, coordinate_is m.origin_y is.origin_y), coordinate_is m.width is.width), coordinate_is m.height is.height) in
-      let terminals : IsList 65535 IsMTermFields m.terminals = (number 0 65535 (length m.terminals) (omega arith) is.few (omega arith), each_by IsMTermFields m.terminals (λ i x at. mterm_fields x (is.terminals i x at))) in (
+      let extent : extent_field.Has (extent_of m) = (((coordinate_is m.origin_x is.origin_x, coordinate_is m.origin_y is.origin_y), coordinate_is m.width is.width), coordinate_is m.height is.height) in
+      let terminals : IsList 65535 mterm_format.Has m.terminals = (number 0 65535 (length m.terminals) (omega arith) is.few (omega arith), each_by mterm_format.Has m.terminals (λ i x at. mterm_fields x (is.terminals i x at))) in (
         ((((((name_text m.name is.name, any_text m.class is.class_short), extent), small), omega (arith, is.site, lawful.few.sites)), any_text m.foreign is.foreign_short), terminals),
         shapes_fields m.obstructions is.obstructions,
       )
 
-  library_fields : (library : List Master) → IsLibrary t library → IsList 1000000 IsMasterFields library
+  library_fields : (library : List Master) → IsLibrary t library → library_format.Has library
+  unfolding library_format
   library_fields library is =
-      (number 0 1000000 (length library) (omega arith) is.few (omega arith), each_by IsMasterFields library (λ i m at. master_fields m (is.masters i m at)))
+      (number 0 1000000 (length library) (omega arith) is.few (omega arith), each_by master_format.Has library (λ i m at. master_fields m (is.masters i m at)))
 
 -- ---- tables
 
@@ -227,7 +253,7 @@ may k n built = rw built refl
 
 table_fields : {A : Type 0} (k : Kind) (cap : ℕ) (Fits : A → Type 0) (t : Table A) → is_built k ≡ true → cap ≤ 16777215 → IsTable cap t → AreEach Fits t → IsTableOf k cap Fits t
 table_fields k cap Fits t built small is each =
-    let few = good_few t is.good in (
+    let few = fewer_free t is.good in (
       ((may k (length t.slots) built, (is.within, omega (arith, is.within, small))), slots_fields Fits t each),
       ((may k (length t.free) built, omega (arith, few, is.within, small)), free_fields t cap is small),
     )
@@ -268,7 +294,7 @@ none_in : (i x : ℕ) → slice_get [] i ≡ Some x → ⊥
 none_in zero x at = cc
 none_in (suc i) x at = cc
 
-block_direction : (d : Direction) → IsBTermDirection d → IsBlockDirection d
+block_direction : (d : Direction) → IsBTermDirection d → (is_of_block d ≡ true) × Unit {0}
 block_direction direction.None h = (refl, tt)
 block_direction direction.Input h = (refl, tt)
 block_direction direction.Output h = (refl, tt)
@@ -276,16 +302,95 @@ block_direction direction.Tristate h = absurd h
 block_direction direction.Inout h = (refl, tt)
 block_direction direction.Feedthru h = (refl, tt)
 
+-- a step of 0
+no_step : (f : RowForm) (z : ℤ) → IsCoordinate z → may_step f (pos 0) ≡ true → z ≡ pos 0 → IsDistance (may_step f) z
+no_step f z within may zero = (ap (may_step f) zero ∙ may, (coordinate_is z within).1)
+
+-- the sites of a row
+sites_lawful : (f : RowForm) (nx ny : ℕ) (sx sy : ℤ) → IsSiteCount nx → IsSiteCount ny → IsCoordinate sx → IsCoordinate sy → IsRepeated f nx ny sx sy → IsSites ((((f, nx), ny), sx), sy)
+sites_lawful form.Bare nx ny sx sy cx cy dx dy once =
+    let along_x = once.0 in
+    let along_y = once.1 in
+    ((((tt, number 1 1 nx (cx.some) (omega (arith, along_x)) (omega arith)), number 1 1 ny (cy.some) (omega (arith, along_y)) (omega arith)), no_step form.Bare sx dx refl once.2), no_step form.Bare sy dy refl once.3)
+sites_lawful form.Do nx ny sx sy cx cy dx dy once =
+    ((((tt, number 1 1000000 nx cx.some cx.few (omega arith)), number 1 1000000 ny cy.some cy.few (omega arith)), no_step form.Do sx dx refl once.0), no_step form.Do sy dy refl once.1)
+sites_lawful form.DoStep nx ny sx sy cx cy dx dy once =
+    ((((tt, number 1 1000000 nx cx.some cx.few (omega arith)), number 1 1000000 ny cy.some cy.few (omega arith)), coordinate_is sx dx), coordinate_is sy dy)
+
+-- ---- the header
+
+header_is : (h : Header) → h ≡ new_header → header_format.Has h
+unfolding header_format
+header_is h new =
+    let P : Header → Type 0 = λ g. header_format.Has g in
+    subst P (sym new) (((((no_text [] refl, (refl, (number 1 1 1 (omega arith) (omega arith) (omega arith), tt))), (refl, (number 2 2 2 (omega arith) (omega arith) (omega arith), tt))), refl), refl), refl)
+
+-- ---- tables without slots
+
+empty_each : {A : Type 0} (Is : A → Type 0) (id : ℕ) (x : A) → record_at (empty_table {A = A}) id ≡ Some x → Is x
+empty_each {A} Is id x found = let none : record_at (empty_table {A = A}) id ≡ None = none_in_empty id in absurd cc
+
+-- no object of a table without slots is anything else than lawful
+none_each : {A : Type 0} (Is : A → Type 0) (t : Table A) → t ≡ empty_table → AreEach Is t
+none_each {A} Is t empty = let P : Table A → Type 0 = AreEach Is in subst P (sym empty) (empty_each Is)
+
+table_few : {A : Type 0} (cap : ℕ) (t : Table A) → IsTable cap t → length t.free ≤ cap
+table_few cap t is = omega (arith, fewer_free t is.good, is.within)
+
+-- ---- terminals of nets
+
+module _ (tech : Technology) (library : List Master) (cap : ℕ) (b : Block) (sound : IsSound tech library cap b) where
+  -- the numbers of the terminals of a net
+  pub terms_up_to : (net : ℕ) → 1 ≤ net → AreUpTo (2 * cap + 1) (net_terms b net)
+  terms_up_to net some number inside =
+      let held = times_held (net_terms b net) number inside in
+      elim (number_is number) [
+        | inl even ↦
+            let times_is : times number (net_terms b net) ≡ once_if (eqb (iterm_net b (number / 2)) net) = ap (λ n. times n (net_terms b net)) even ∙ iterms_held tech library cap b sound net (number / 2) some in
+            let named = eqb-true (iterm_net b (number / 2)) net (once_true (eqb (iterm_net b (number / 2)) net) (omega (arith, held, times_is))) in
+            let within = named_within (λ r. r.net) b.iterm (number / 2) net some named in
+            (omega (arith, within.0, even), omega (arith, within.1, (sound.kinds kind.ITerm).table.within, even))
+        | inr odd ↦
+            let times_is : times number (net_terms b net) ≡ once_if (eqb (bterm_net b (number / 2)) net) = ap (λ n. times n (net_terms b net)) odd ∙ bterms_held tech library cap b sound net (number / 2) some in
+            let named = eqb-true (bterm_net b (number / 2)) net (once_true (eqb (bterm_net b (number / 2)) net) (omega (arith, held, times_is))) in
+            let within = named_within (λ e. e.fields.net) b.bterm (number / 2) net some named in
+            (omega (arith, within.0, odd), omega (arith, within.1, (sound.kinds kind.BTerm).table.within, odd))
+      ]
+
+  pub terms_few : (net : ℕ) → 1 ≤ net → length (net_terms b net) ≤ 2 * cap + 1
+  terms_few net some = length-distinct (2 * cap + 1) (net_terms b net) (terms_distinct tech library cap b sound net some) (terms_up_to net some)
+
+-- ---- objects
+
+-- each object of a block has lawful fields
+pub record AreLawful (b : Block) : Type 0 where
+  pub inst : AreEach inst_format.Has b.inst
+  pub iterm : AreEach iterm_format.Has b.iterm
+  pub net : AreEach net_format.Has b.net
+  pub bterm : AreEach bterm_format.Has b.bterm
+  pub pin : AreEach pin_format.Has b.pin
+  pub row : AreEach row_format.Has b.row
+  pub track : AreEach track_format.Has b.track
+  pub wire : AreEach wire_format.Has b.wire
+  pub blockage : AreEach blockage_format.Has b.blockage
+  pub region : AreEach region_format.Has b.region
+  pub group : AreEach group_format.Has b.group
+  pub prop : AreEach prop_format.Has b.prop
+
 module _ (d : Database) (sound : IsSoundDatabase d) where
-  inst_fields : AreEach IsInstFields d.block.inst
+  tables : AreTables d.cap d.block
+  tables = are_tables d.tech d.library d.cap d.block ((sound_by_parts d.tech d.library d.cap d.block).0 sound.block)
+
+  inst_fields : AreEach inst_format.Has d.block.inst
+  unfolding inst_format
   inst_fields id e found =
-      let is = sound.block.insts id e found in
+      let is = (sound.block.kinds kind.Inst).each id e found in
       let few = few_terminals d.tech d.library e.fields.master (length e.fields.terminals) sound.library is.fitted in
       let here : inst_terms d.block id ≡ e.fields.terminals = ap (list_in (λ (x : InstEntry). x.fields.terminals)) found in
       let terminals : AllByRecursion IsId e.fields.terminals = each_by IsId e.fields.terminals (λ k part at.
-      let placed = (sound.block.placed id k part).0 (ap (λ (ids : List ℕ). slice_get ids k) here ∙ at) in
+      let placed = (terms_placed d.tech d.library d.cap d.block sound.block id k part).0 (ap (λ (ids : List ℕ). slice_get ids k) here ∙ at) in
       let shown = shown_by (λ (r : ITermRec). (r.inst, r.index)) (record_at d.block.iterm part) (id, k) placed in
-      live_id d.cap d.block.iterm part sound.capped sound.block.iterm (found_live d.block.iterm part shown.value shown.is))
+      live_id d.cap d.block.iterm part sound.capped tables.iterm (found_live d.block.iterm part shown.value shown.is))
       in (
         (
           (
@@ -295,7 +400,7 @@ module _ (d : Database) (sound : IsSoundDatabase d) where
             ),
             (number 0 4294967295 (length e.fields.terminals) (omega arith) (omega (arith, few)) (omega arith), terminals),
           ),
-          is.props,
+          no_ids e.props is.props,
         ),
         no_text e.fields.kept is.kept,
       )
@@ -304,18 +409,19 @@ module _ (d : Database) (sound : IsSoundDatabase d) where
   inst_live : (inst index part : ℕ) (o : Option InstEntry) → record_at d.block.inst inst ≡ o → slice_get (list_in (λ x. x.fields.terminals) o) index ≡ Some part → IsId inst × IsId index
   inst_live inst index part None is at = absurd (none_in index part at)
   inst_live inst index part (Some e) is at =
-      let few = few_terminals d.tech d.library e.fields.master (length e.fields.terminals) sound.library (sound.block.insts inst e is).fitted in
+      let few = few_terminals d.tech d.library e.fields.master (length e.fields.terminals) sound.library ((sound.block.kinds kind.Inst).each inst e is).fitted in
       let within = slice_get_within e.fields.terminals index part at in
-      (live_id d.cap d.block.inst inst sound.capped sound.block.inst (found_live d.block.inst inst e is), omega (arith, few, within))
+      (live_id d.cap d.block.inst inst sound.capped tables.inst (found_live d.block.inst inst e is), omega (arith, few, within))
 
   net_id : (net number : ℕ) → holds (net_terms d.block net) number ≡ true → IsId net
   net_id net number inside =
-      live_id d.cap d.block.net net sound.capped sound.block.net (net_of_member d.tech d.library d.cap d.block net number inside)
+      live_id d.cap d.block.net net sound.capped tables.net (net_of_member d.tech d.library d.cap d.block net number inside)
 
-  iterm_fields : AreEach IsITermFields d.block.iterm
+  iterm_fields : AreEach iterm_format.Has d.block.iterm
+  unfolding iterm_format
   iterm_fields id r found =
       let place_is : iterm_place d.block id ≡ Some (r.inst, r.index) = ap (option_map (λ (r : ITermRec). (r.inst, r.index))) found in
-      let at = (sound.block.placed r.inst r.index id).1 place_is in
+      let at = (terms_placed d.tech d.library d.cap d.block sound.block r.inst r.index id).1 place_is in
       let inst = inst_live r.inst r.index id (record_at d.block.inst r.inst) refl at in
       let joined : option_map (λ r. r.net) (record_at d.block.iterm id) ≡ Some r.net = ap (option_map (λ (r : ITermRec). r.net)) found in (
         inst,
@@ -325,9 +431,10 @@ module _ (d : Database) (sound : IsSoundDatabase d) where
         ],
       )
 
-  net_fields : AreEach IsNetFields d.block.net
+  net_fields : AreEach net_format.Has d.block.net
+  unfolding net_format
   net_fields id e found =
-      let is = sound.block.nets id e found in
+      let is = (sound.block.kinds kind.Net).each id e found in
       let some = from_one d.block.net id (live_by d.block.net id e found) in
       let here : net_terms d.block id ≡ e.terms = ap (list_in (λ (x : NetEntry). x.terms)) found in
       let few = terms_few d.tech d.library d.cap d.block sound.block id some in
@@ -337,46 +444,95 @@ module _ (d : Database) (sound : IsSoundDatabase d) where
         number 0 4294967295 (length (net_terms d.block id)) (omega arith) (omega (arith, few, sound.capped)) (omega arith),
         each_held IsTerm (net_terms d.block id) (λ n inside. let u = upto n inside in (u.0, omega (arith, u.1, sound.capped))),
       ) in
-      (((((((name_text e.fields.name is.name, tt), tt), subst P here terms), is.wires), is.props), no_text e.fields.kept is.kept), no_text e.fields.special_kept is.special_kept)
+      (((((((name_text e.fields.name is.name, tt), tt), subst P here terms), no_ids e.wires is.wires), no_ids e.props is.props), no_text e.fields.kept is.kept), no_text e.fields.special_kept is.special_kept)
 
-  bterm_fields : AreEach IsBTermFields d.block.bterm
+  bterm_fields : AreEach bterm_format.Has d.block.bterm
+  unfolding bterm_format block_direction_field
   bterm_fields id e found =
-      let is = sound.block.bterms id e found in
+      let is = (sound.block.kinds kind.BTerm).each id e found in
       let joined : option_map (λ x. x.fields.net) (record_at d.block.bterm id) ≡ Some e.fields.net = ap (option_map (λ (x : BTermEntry). x.fields.net)) found in
       let net : IsId e.fields.net = elim (cases_eq e.fields.net 0) [
         | inl none ↦ omega (arith, none)
         | inr some ↦ net_id e.fields.net (bterm_number id) (bterm_inside d.tech d.library d.cap d.block sound.block id e.fields.net (omega (arith, some)) joined)
       ] in
-      (((((name_text e.fields.name is.name, net), block_direction e.fields.direction is.direction), tt), is.pins), no_text e.fields.kept is.kept)
+      (((((name_text e.fields.name is.name, net), block_direction e.fields.direction is.direction), tt), no_ids e.pins is.pins), no_text e.fields.kept is.kept)
 
--- ---- all of it
+  row_fields : AreEach row_format.Has d.block.row
+  unfolding row_format
+  row_fields id e found =
+      let is = (sound.block.kinds kind.Row).each id e found in
+      let f = is.fields in
+      let r = e.fields in
+      let site : IsId r.site = omega (arith, f.site, sound.tech.few.sites) in
+      (((((((name_text r.name f.name, site), coordinate_is r.x f.x), coordinate_is r.y f.y), tt), sites_lawful r.form r.nx r.ny r.sx r.sy f.nx f.ny f.sx f.sy f.repeated), no_ids e.props is.props))
 
-header_fields : (h : Header) → h ≡ new_header → IsHeaderFields h
-header_fields h new =
-    let P : Header → Type 0 = λ g. IsHeaderFields g in
-    subst P (sym new) (((((no_text [] refl, (refl, (number 1 1 1 (omega arith) (omega arith) (omega arith), tt))), (refl, (number 2 2 2 (omega arith) (omega arith) (omega arith), tt))), refl), refl), refl)
+  -- each object of a sound database has lawful fields
+  pub objects_lawful : AreLawful d.block
+  objects_lawful = record {
+    inst = inst_fields;
+    iterm = iterm_fields;
+    net = net_fields;
+    bterm = bterm_fields;
+    pin = none_each pin_format.Has d.block.pin ((sound.block.kinds kind.Pin).coming refl);
+    row = row_fields;
+    track = none_each track_format.Has d.block.track ((sound.block.kinds kind.Track).coming refl);
+    wire = none_each wire_format.Has d.block.wire ((sound.block.kinds kind.Wire).coming refl);
+    blockage = none_each blockage_format.Has d.block.blockage ((sound.block.kinds kind.Blockage).coming refl);
+    region = none_each region_format.Has d.block.region ((sound.block.kinds kind.Region).coming refl);
+    group = none_each group_format.Has d.block.group ((sound.block.kinds kind.Group).coming refl);
+    prop = none_each prop_format.Has d.block.prop ((sound.block.kinds kind.Prop).coming refl);
+  }
+
+  built_fields : (built_format d.cap).Has (((d.block.inst, d.block.iterm), d.block.net), d.block.bterm)
+  unfolding built_format
+  built_fields = (
+    (
+      (
+        table_fields kind.Inst d.cap inst_format.Has d.block.inst refl sound.capped tables.inst inst_fields,
+        table_fields kind.ITerm d.cap iterm_format.Has d.block.iterm refl sound.capped tables.iterm iterm_fields,
+      ),
+      table_fields kind.Net d.cap net_format.Has d.block.net refl sound.capped tables.net net_fields,
+    ),
+    table_fields kind.BTerm d.cap bterm_format.Has d.block.bterm refl sound.capped tables.bterm bterm_fields,
+  )
+
+  others_fields : (others_format d.cap).Has (block_parts d.block).1
+  unfolding others_format
+  others_fields =
+      let pin = empty_fields kind.Pin d.cap pin_format.Has d.block.pin ((sound.block.kinds kind.Pin).coming refl) in
+      let row = table_fields kind.Row d.cap row_format.Has d.block.row refl sound.capped tables.row row_fields in
+      let track = empty_fields kind.Track d.cap track_format.Has d.block.track ((sound.block.kinds kind.Track).coming refl) in
+      let wire = empty_fields kind.Wire d.cap wire_format.Has d.block.wire ((sound.block.kinds kind.Wire).coming refl) in
+      let blockage = empty_fields kind.Blockage d.cap blockage_format.Has d.block.blockage ((sound.block.kinds kind.Blockage).coming refl) in
+      let region = empty_fields kind.Region d.cap region_format.Has d.block.region ((sound.block.kinds kind.Region).coming refl) in
+      let group = empty_fields kind.Group d.cap group_format.Has d.block.group ((sound.block.kinds kind.Group).coming refl) in
+      let prop = empty_fields kind.Prop d.cap prop_format.Has d.block.prop ((sound.block.kinds kind.Prop).coming refl) in
+      (((((((pin, row), track), wire), blockage), region), group), prop)
+
+  block_fields : (block_format d.cap).Has d.block
+  unfolding block_format
+  block_fields = ((header_is d.block.header sound.block.header, built_fields), others_fields)
 
 -- what a sound database spells is lawful, field by field
 pub saved_fields : (d : Database) → IsSoundDatabase d → IsSavedFields d.cap (spelled d)
-saved_fields d sound =
-    let others = sound.block.others in
-    let built : IsBuiltFields d.cap d.block = (
-      (
-        (
-          table_fields kind.Inst d.cap IsInstFields d.block.inst refl sound.capped sound.block.inst (inst_fields d sound),
-          table_fields kind.ITerm d.cap IsITermFields d.block.iterm refl sound.capped sound.block.iterm (iterm_fields d sound),
-        ),
-        table_fields kind.Net d.cap IsNetFields d.block.net refl sound.capped sound.block.net (net_fields d sound),
-      ),
-      table_fields kind.BTerm d.cap IsBTermFields d.block.bterm refl sound.capped sound.block.bterm (bterm_fields d sound),
-    ) in
-    let pin = empty_fields kind.Pin d.cap IsPinFields d.block.pin others.pin in
-    let row = empty_fields kind.Row d.cap IsRowFields d.block.row others.row in
-    let track = empty_fields kind.Track d.cap IsTrackFields d.block.track others.track in
-    let wire = empty_fields kind.Wire d.cap IsWireFields d.block.wire others.wire in
-    let blockage = empty_fields kind.Blockage d.cap IsBlockageFields d.block.blockage others.blockage in
-    let region = empty_fields kind.Region d.cap IsRegionFields d.block.region others.region in
-    let group = empty_fields kind.Group d.cap IsGroupFields d.block.group others.group in
-    let prop = empty_fields kind.Prop d.cap IsPropFields d.block.prop others.prop in
-    let other : IsOtherFields d.cap d.block = (((((((pin, row), track), wire), blockage), region), group), prop) in
-    ((((tt, tt), tech_fields d.tech sound.tech), library_fields d.tech sound.tech d.library sound.library), ((header_fields d.block.header sound.block.header, built), other))
+saved_fields d sound = ((((tt, tt), tech_fields d.tech sound.tech), library_fields d.tech sound.tech d.library sound.library), block_fields d sound)
+
+-- ---- free identifiers
+
+-- no more identifiers are free than the cap
+free_few : (cap : ℕ) (b : Block) → AreTables cap b → (k : Kind) → length (free_in k b) ≤ cap
+free_few cap b are kind.Inst = table_few cap b.inst are.inst
+free_few cap b are kind.ITerm = table_few cap b.iterm are.iterm
+free_few cap b are kind.Net = table_few cap b.net are.net
+free_few cap b are kind.BTerm = table_few cap b.bterm are.bterm
+free_few cap b are kind.Pin = table_few cap b.pin are.pin
+free_few cap b are kind.Row = table_few cap b.row are.row
+free_few cap b are kind.Track = table_few cap b.track are.track
+free_few cap b are kind.Wire = table_few cap b.wire are.wire
+free_few cap b are kind.Blockage = table_few cap b.blockage are.blockage
+free_few cap b are kind.Region = table_few cap b.region are.region
+free_few cap b are kind.Group = table_few cap b.group are.group
+free_few cap b are kind.Prop = table_few cap b.prop are.prop
+
+pub free_short : (d : Database) (k : Kind) → IsSoundDatabase d → IsShort (free_in k d.block)
+free_short d k sound = let few = free_few d.cap d.block (tables d sound) k in omega (arith, few, sound.capped)

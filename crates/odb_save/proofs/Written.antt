@@ -9,14 +9,16 @@ use Rattle.slot_pool.specs.Table.{Table, record_at}
 use Rattle.block_store.specs.Block.{Block, free_in, slots_in}
 use Rattle.block_store.proofs.Slots.{record_at_place}
 use Rattle.odb_save.specs.Kinds.{slot_in, slots_behind, table_in}
-use Rattle.odb_save.specs.Objects.{blockage_bytes, bterm_bytes, group_bytes, inst_bytes, iterm_bytes, net_bytes, pin_bytes, prop_bytes, region_bytes, row_bytes, track_bytes, wire_bytes}
-use Rattle.odb_save.specs.Parts.{ids_bytes, list_bytes, option_bytes, table_bytes}
+use Rattle.saved_reader.specs.Bytes.{list_bytes, option_bytes, table_bytes}
+use Rattle.saved_reader.specs.Grouping.{group_format, prop_format, region_format}
+use Rattle.saved_reader.specs.Objects.{bterm_format, inst_format, iterm_format, net_format}
+use Rattle.saved_reader.specs.Physical.{blockage_format, pin_format, row_format, track_format, wire_format}
 
 -- how a table is written
 pub record IsWritten (slots : ℕ) (behind slot : ℕ → List ℕ) (free : List ℕ) (whole : List ℕ) : Type 0 where
   pub step : (place : ℕ) → place < slots → behind place ≡ slot (place + 1) ++ behind (place + 1)
   pub done : behind slots ≡ []
-  pub parts : whole ≡ u32_bytes slots ++ behind 0 ++ ids_bytes free
+  pub parts : whole ≡ u32_bytes slots ++ behind 0 ++ list_bytes u32_bytes free
 
 written : {A : Type 0} (each : A → List ℕ) (t : Table A) → IsWritten (length t.slots) (λ n. flat_map (option_bytes each) (drop n t.slots)) (λ id. option_bytes each (record_at t id)) t.free (table_bytes each t)
 unfolding table_bytes list_bytes
@@ -30,29 +32,29 @@ written each t = record {
 
 pub written_in : (k : Kind) (b : Block) → IsWritten (slots_in k b) (λ n. slots_behind n k b) (λ id. slot_in k id b) (free_in k b) (table_in k b)
 unfolding slots_behind slot_in table_in
-written_in kind.Inst b = written inst_bytes b.inst
-written_in kind.ITerm b = written iterm_bytes b.iterm
-written_in kind.Net b = written net_bytes b.net
-written_in kind.BTerm b = written bterm_bytes b.bterm
-written_in kind.Pin b = written pin_bytes b.pin
-written_in kind.Row b = written row_bytes b.row
-written_in kind.Track b = written track_bytes b.track
-written_in kind.Wire b = written wire_bytes b.wire
-written_in kind.Blockage b = written blockage_bytes b.blockage
-written_in kind.Region b = written region_bytes b.region
-written_in kind.Group b = written group_bytes b.group
-written_in kind.Prop b = written prop_bytes b.prop
+written_in kind.Inst b = written inst_format.bytes b.inst
+written_in kind.ITerm b = written iterm_format.bytes b.iterm
+written_in kind.Net b = written net_format.bytes b.net
+written_in kind.BTerm b = written bterm_format.bytes b.bterm
+written_in kind.Pin b = written pin_format.bytes b.pin
+written_in kind.Row b = written row_format.bytes b.row
+written_in kind.Track b = written track_format.bytes b.track
+written_in kind.Wire b = written wire_format.bytes b.wire
+written_in kind.Blockage b = written blockage_format.bytes b.blockage
+written_in kind.Region b = written region_format.bytes b.region
+written_in kind.Group b = written group_format.bytes b.group
+written_in kind.Prop b = written prop_format.bytes b.prop
 
 -- the three parts of a table were appended
 pub table_appended : (k : Kind) (b b' : Block) (slots : ℕ) (a x y z : List ℕ) → b ≡ b' → slots ≡ slots_in k b
-    → x ≡ a ++ u32_bytes slots → y ≡ x ++ slots_behind 0 k b' → z ≡ y ++ ids_bytes (free_in k b) → z ≡ a ++ table_in k b'
+    → x ≡ a ++ u32_bytes slots → y ≡ x ++ slots_behind 0 k b' → z ≡ y ++ list_bytes u32_bytes (free_in k b) → z ≡ a ++ table_in k b'
 table_appended k b b' slots a x y z same count first second third =
     let counted : slots ≡ slots_in k b' = count ∙ ap (slots_in k) same in
-    let freed : ids_bytes (free_in k b) ≡ ids_bytes (free_in k b') = ap (λ (c : Block). ids_bytes (free_in k c)) same in
-    let whole : table_in k b' ≡ u32_bytes slots ++ slots_behind 0 k b' ++ ids_bytes (free_in k b') =
-    (written_in k b').parts ∙ ap (λ n. u32_bytes n ++ slots_behind 0 k b' ++ ids_bytes (free_in k b')) (sym counted)
+    let freed : list_bytes u32_bytes (free_in k b) ≡ list_bytes u32_bytes (free_in k b') = ap (λ (c : Block). list_bytes u32_bytes (free_in k c)) same in
+    let whole : table_in k b' ≡ u32_bytes slots ++ slots_behind 0 k b' ++ list_bytes u32_bytes (free_in k b') =
+    (written_in k b').parts ∙ ap (λ n. u32_bytes n ++ slots_behind 0 k b' ++ list_bytes u32_bytes (free_in k b')) (sym counted)
     in
-    let joined : ((a ++ u32_bytes slots) ++ slots_behind 0 k b') ++ ids_bytes (free_in k b') ≡ a ++ (u32_bytes slots ++ slots_behind 0 k b' ++ ids_bytes (free_in k b')) = simp append_assoc in
-    third ∙ ap (λ l. l ++ ids_bytes (free_in k b)) (second ∙ ap (λ l. l ++ slots_behind 0 k b') first)
+    let joined : ((a ++ u32_bytes slots) ++ slots_behind 0 k b') ++ list_bytes u32_bytes (free_in k b') ≡ a ++ (u32_bytes slots ++ slots_behind 0 k b' ++ list_bytes u32_bytes (free_in k b')) = simp append_assoc in
+    third ∙ ap (λ l. l ++ list_bytes u32_bytes (free_in k b)) (second ∙ ap (λ l. l ++ slots_behind 0 k b') first)
     ∙ ap (λ l. ((a ++ u32_bytes slots) ++ slots_behind 0 k b') ++ l) freed
     ∙ joined ∙ ap (λ l. a ++ l) (sym whole)

@@ -1,13 +1,9 @@
 pub mod Design
-pub mod Entries
 pub mod Examples
-pub mod Fits
 pub mod Kinds
-pub mod Library
 pub mod LoadFaults
 pub mod Loading
-pub mod Objects
-pub mod Parts
 pub mod Save
 pub mod Spelled
-pub mod Technology
+pub use Rattle.odb_fields.specs.Bytes
+pub use Rattle.saved_reader.specs.Saved

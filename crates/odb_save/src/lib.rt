@@ -8,6 +8,9 @@
 //! A count has 32 bits. That each list and text of a database is short enough follows from the database being
 //! sound, so no answer says otherwise: the only one besides the bytes is want of memory.
 //!
+//! Each record is one table of fields in the crate `saved_reader`, which reads it and writes it. This crate puts records
+//! together, and proves of a sound database that its fields are such as may be written.
+//!
 //! [`load`] gives the database whose saved bytes are those that it is handed. The crate `saved_reader` reads what bytes
 //! spell, `tech_parts` enters the technology and the masters, each where it is lawful, and `block_tables` judges whether
 //! the tables are sound with them. That the bytes of a sound database are read as that database, and that no other bytes
@@ -22,14 +25,10 @@
 
 pub mod database;
 mod design;
-mod header;
 pub mod laws;
 mod lists;
 pub mod load_fault;
 pub mod loading;
-mod masters;
-mod objects;
-mod parts;
 mod slots;
 mod tables;
 mod technology;

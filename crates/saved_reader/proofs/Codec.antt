@@ -4,8 +4,8 @@ use Rattle.odb_fields.specs.declared.get.Cut.{Cut}
 use Rattle.odb_fields.specs.Bytes.{AreBytes}
 use Rattle.odb_fields.specs.Reading.{Cursor, ReadsBack, ReadsOnly, Takes, ◌>>=◌}
 use Rattle.odb_fields.proofs.Inputs.{AreBytes-taken, Takes-append, bind_ok, made_back, ok_is, then_back, with_fault_back, with_fault_ok}
-use Rattle.saved_reader.specs.declared.fault.ReadFault.TheVariants as fault
-use Rattle.saved_reader.specs.Reading.{Reading, given, judged, made, plain, ◌&◌, ◌by◌, ◌then◌}
+use Rattle.saved_reader.specs.Fault as fault
+use Rattle.saved_reader.specs.Reading.{Reading, both, given, judged, made, plain, ◌by◌, ◌then◌}
 
 -- Of the values that fit: where its bytes stand, the value is read; and a value that was read has just these bytes.
 pub record IsCodec {A : Type 0} (reads : Reading A) (writes : A → List ℕ) (Fits : A → Type 0) : Type 0 where
@@ -94,7 +94,7 @@ then_codec {A} {B} first next wa wb Fa Fb a b = record {
 
 -- one reading and another
 pub and_codec : {A B : Type 0} (first : Reading A) (second : Reading B) (wa : A → List ℕ) (wb : B → List ℕ) (Fa : A → Type 0) (Fb : B → Type 0)
-    → IsCodec first wa Fa → IsCodec second wb Fb → IsCodec (first & second) (λ p. wa p.0 ++ wb p.1) (λ p. Fa p.0 × Fb p.1)
+    → IsCodec first wa Fa → IsCodec second wb Fb → IsCodec (both first second) (λ p. wa p.0 ++ wb p.1) (λ p. Fa p.0 × Fb p.1)
 and_codec first second wa wb Fa Fb a b = then_codec first (λ _. second) wa wb Fa (λ _. Fb) a (λ _. b)
 
 -- a reading that goes by what the one before it gave, which the value tells too

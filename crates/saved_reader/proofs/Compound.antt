@@ -1,27 +1,28 @@
--- Codecs of placements, rectangles and tables.
-use Rattle.std.proofs.Common.{◌≡◌, ◌<◌, ◌≤◌, ◌^◌, true, false, ltb, ℕ, ℤ, List, ◌++◌, length, Option, is_some, Ok, refl, ap, ◌∙◌, arith, inl, inr}
-use Rattle.std.specs.List.{AllByRecursion, flat_map}
-use Rattle.std.proofs.lemmas.Bool.{cases_Bool, le-ltb}
+-- Codecs of placements, rectangles, what isn't there yet, and tables.
+use Rattle.std.proofs.Common.{◌≡◌, ◌<◌, ◌^◌, false, eqb, ltb, ℕ, ℤ, List, Option, Some, None, Ok, refl, sym, ap, ◌∙◌, arith, inl, inr}
+use Rattle.std.proofs.lemmas.Bool.{cases_Bool, eqb-true, le-ltb}
 use Rattle.odb_base.specs.Orient.{orient_code, orients}
 use Rattle.odb_base.specs.PlaceStatus.{place_status_code, place_statuses}
 use Rattle.odb_base.specs.declared.codes.kind.Kind.{Kind}
 use Rattle.odb_base.specs.declared.codes.orient.Orient.{Orient}
-use Rattle.odb_base.specs.declared.codes.orient.Orient.TheVariants as orient
 use Rattle.odb_base.specs.declared.codes.place_status.PlaceStatus.{PlaceStatus}
 use Rattle.odb_base.specs.declared.codes.place_status.PlaceStatus.TheVariants as status
 use Rattle.odb_base.specs.declared.geometry.Placement.{Placement}
 use Rattle.odb_base.specs.declared.geometry.Rect.{Rect}
 use Rattle.odb_fields.specs.Fields.{i32_bytes, u32_bytes, u8_bytes}
-use Rattle.odb_fields.specs.Reading.{Cursor, u32_at, ◌>>=◌}
+use Rattle.odb_fields.specs.Reading.{Cursor, u32_at, u8_at, ◌>>=◌}
 use Rattle.odb_fields.proofs.Inputs.{bind_ok}
 use Rattle.slot_pool.specs.Table.{Table}
 use Rattle.lawful_parts.specs.Tests.{is_coordinate}
+use Rattle.saved_reader.specs.Bytes.{option_bytes, place_bytes, rect_bytes, table_bytes}
 use Rattle.saved_reader.specs.Fields.{coded_at, distance_at, id_at, is_from}
-use Rattle.saved_reader.specs.Parts.{free_count_at, may_be_turned, may_have, may_stand, option_at, place_at, placement_of, rect_at, rect_of, slot_count_at, table_at, table_of, turn_at, within_cap}
+use Rattle.saved_reader.specs.Parts.{absent_at, free_count_at, may_be_turned, may_have, may_stand, none_if_0, option_at, place_at, placement_of, rect_at, rect_of, slot_count_at, table_at, table_of, turn_at, within_cap}
 use Rattle.saved_reader.specs.Reading.{Reading, plain}
-use Rattle.saved_reader.proofs.Codec.{IsCodec, and_codec, record_codec, then_codec}
-use Rattle.saved_reader.proofs.Counted.{IsOption, counted_codec, option_codec, stated_bytes}
-use Rattle.saved_reader.proofs.Single.{IsDistance, IsId, IsSet, coded_codec, distance_codec, flag_number, id_codec, such_codec, u32_codec}
+use Rattle.saved_reader.specs.Lawful.{IsDistance, IsFreeCount, IsId, IsOption, IsPlacementFields, IsRectFields, IsSlotCount, IsTableOf, IsTurn, IsWithin}
+use Rattle.saved_reader.proofs.Codec.{IsCodec, and_codec, judged_codec, record_codec, same_codec, then_codec}
+use Rattle.saved_reader.proofs.Counted.{counted_codec, option_codec}
+use Rattle.saved_reader.proofs.Sets.{orients_set}
+use Rattle.saved_reader.proofs.Single.{IsSet, coded_codec, distance_codec, id_codec, such_codec, u32_codec, u8_codec}
 
 -- ---- placements
 
@@ -31,16 +32,6 @@ statuses_set = record {
   small = elim [ status.Unplaced ↦ omega arith | status.Placed ↦ omega arith | status.Fixed ↦ omega arith | status.Cover ↦ omega arith ];
 }
 
-pub orients_set : IsSet orient_code orients
-orients_set = record {
-  again = elim [ orient.N ↦ refl | orient.S ↦ refl | orient.W ↦ refl | orient.E ↦ refl | orient.FN ↦ refl | orient.FS ↦ refl | orient.FW ↦ refl | orient.FE ↦ refl ];
-  small = elim [ orient.N ↦ omega arith | orient.S ↦ omega arith | orient.W ↦ omega arith | orient.E ↦ omega arith | orient.FN ↦ omega arith | orient.FS ↦ omega arith | orient.FW ↦ omega arith | orient.FE ↦ omega arith ];
-}
-
--- an orientation of what has this status
-abbrev pub IsTurn : PlaceStatus → Orient → Type 0
-IsTurn placed o = (may_be_turned placed o ≡ true) × Unit {0}
-
 turn_codec : (placed : PlaceStatus) → IsCodec (turn_at placed) (λ o. u8_bytes (orient_code o)) (IsTurn placed)
 unfolding turn_at
 turn_codec placed = such_codec (may_be_turned placed) (coded_at orient_code orients) (λ o. u8_bytes (orient_code o)) (λ o. Unit {0}) (coded_codec orient_code orients orients_set)
@@ -48,11 +39,8 @@ turn_codec placed = such_codec (may_be_turned placed) (coded_at orient_code orie
 abbrev pub placement_parts : Placement → ((PlaceStatus × ℤ) × ℤ) × Orient
 placement_parts p = (((p.status, p.x), p.y), p.orientation)
 
-abbrev pub IsPlacementFields : Placement → Type 0
-IsPlacementFields p = ((Unit {0} × IsDistance (may_stand p.status) p.x) × IsDistance (may_stand p.status) p.y) × IsTurn p.status p.orientation
-
-pub place_codec : IsCodec place_at (λ p. u8_bytes (place_status_code p.status) ++ i32_bytes p.x ++ i32_bytes p.y ++ u8_bytes (orient_code p.orientation)) IsPlacementFields
-unfolding place_at
+pub place_codec : IsCodec place_at place_bytes IsPlacementFields
+unfolding place_at place_bytes
 place_codec =
     let status = coded_codec place_status_code place_statuses statuses_set in
     let x = then_codec _ (λ placed. distance_at (may_stand placed)) _ i32_bytes _ (λ placed. IsDistance (may_stand placed)) status (λ placed. distance_codec (may_stand placed)) in
@@ -65,17 +53,29 @@ place_codec =
 abbrev pub rect_parts : Rect → ((ℤ × ℤ) × ℤ) × ℤ
 rect_parts r = (((r.xl, r.yl), r.xh), r.yh)
 
-abbrev pub IsRectFields : Rect → Type 0
-IsRectFields r = ((IsDistance is_coordinate r.xl × IsDistance is_coordinate r.yl) × IsDistance (is_from r.xl) r.xh) × IsDistance (is_from r.yl) r.yh
-
-pub rect_codec : IsCodec rect_at (λ r. i32_bytes r.xl ++ i32_bytes r.yl ++ i32_bytes r.xh ++ i32_bytes r.yh) IsRectFields
-unfolding rect_at
+pub rect_codec : IsCodec rect_at rect_bytes IsRectFields
+unfolding rect_at rect_bytes
 rect_codec =
     let coordinate = distance_codec is_coordinate in
     let corner = and_codec _ _ i32_bytes i32_bytes _ _ coordinate coordinate in
     let xh = then_codec _ (λ (t : ℤ × ℤ). distance_at (is_from t.0)) _ i32_bytes _ (λ t. IsDistance (is_from t.0)) corner (λ t. distance_codec (is_from t.0)) in
     let yh = then_codec _ (λ (t : (ℤ × ℤ) × ℤ). distance_at (is_from t.0.1)) _ i32_bytes _ (λ t. IsDistance (is_from t.0.1)) xh (λ t. distance_codec (is_from t.0.1)) in
     record_codec rect_of rect_parts _ _ _ (λ r. refl) (λ t. refl) yh
+
+-- ---- what isn't there yet
+
+zero_if_none : {A : Type 0} (n : ℕ) (o : Option A) → none_if_0 n ≡ Some o → n ≡ 0
+zero_if_none n o e = elim (cases_Bool (eqb n 0)) [
+  | inl zero ↦ eqb-true n 0 zero
+  | inr some ↦ absurd (let h = rw some at e in cc)
+]
+
+-- nothing is stated
+pub absent_codec : {A : Type 0} (writes : A → List ℕ) → IsCodec absent_at (option_bytes writes) (λ o. o ≡ None)
+unfolding absent_at option_bytes
+absent_codec {A} writes =
+    same_codec absent_at (λ (o : Option A). u8_bytes 0) (option_bytes writes) (λ o. o ≡ None) (λ o none. ap (option_bytes writes) (sym none))
+    (judged_codec none_if_0 (λ (o : Option A). 0) (plain u8_at) u8_bytes (λ n. n < 2 ^ 8) (λ o. o ≡ None) (λ o none. ap Some (sym none)) zero_if_none (λ o none. omega arith) u8_codec)
 
 -- ---- tables
 
@@ -84,10 +84,6 @@ within_ok k cap p q e = elim (cases_Bool (ltb cap p.0)) [
   | inl over ↦ absurd (let h = rw over at e in cc)
   | inr fits ↦ (let h = rw fits at e in cc)
 ]
-
--- a number of slots within the cap
-abbrev pub IsWithin : ℕ → ℕ → Type 0
-IsWithin cap n = (n ≤ cap) × (n < 2 ^ 32)
 
 within_codec : (k : Kind) (cap : ℕ) → IsCodec (λ i. plain u32_at i >>= within_cap k cap) u32_bytes (IsWithin cap)
 within_codec k cap = record {
@@ -100,17 +96,9 @@ within_codec k cap = record {
       u32_codec.only old new n are (u.1 ∙ ap (λ (p : ℕ × Cursor). Ok p) (within_ok k cap u.0 (n, new) u.2)) fits.1;
 }
 
--- how many slots a table of this kind may have
-abbrev pub IsSlotCount : Kind → ℕ → ℕ → Type 0
-IsSlotCount k cap n = (may_have k n ≡ true) × IsWithin cap n
-
 slot_count_codec : (k : Kind) (cap : ℕ) → IsCodec (slot_count_at k cap) u32_bytes (IsSlotCount k cap)
 unfolding slot_count_at
 slot_count_codec k cap = such_codec (may_have k) (λ i. plain u32_at i >>= within_cap k cap) u32_bytes (IsWithin cap) (within_codec k cap)
-
--- how many free identifiers a table of this kind may have
-abbrev pub IsFreeCount : Kind → ℕ → Type 0
-IsFreeCount k n = (may_have k n ≡ true) × (n < 2 ^ 32)
 
 free_count_codec : (k : Kind) → IsCodec (free_count_at k) u32_bytes (IsFreeCount k)
 unfolding free_count_at
@@ -119,26 +107,9 @@ free_count_codec k = such_codec (may_have k) (plain u32_at) u32_bytes (λ n. n <
 abbrev pub table_parts : {A : Type 0} → Table A → List (Option A) × List ℕ
 table_parts t = (t.slots, t.free)
 
-module _ {A : Type 0} (writes : A → List ℕ) where
-  -- a list, and what may be absent, as bytes
-  abbrev pub listed : List A → List ℕ
-  listed xs = u32_bytes (length xs) ++ flat_map writes xs
-
-  abbrev pub optional : Option A → List ℕ
-  optional o = u8_bytes (flag_number (is_some o)) ++ stated_bytes writes o
-
-abbrev pub tabled : {A : Type 0} → (A → List ℕ) → Table A → List ℕ
-tabled writes t = listed (optional writes) t.slots ++ listed u32_bytes t.free
-
--- a table whose records fit
-abbrev pub IsTableOf : {A : Type 0} → Kind → ℕ → (A → Type 0) → Table A → Type 0
-IsTableOf k cap Fits t =
-    (IsSlotCount k cap (length t.slots) × AllByRecursion (λ o. Unit {0} × IsOption Fits o) t.slots)
-    × (IsFreeCount k (length t.free) × AllByRecursion IsId t.free)
-
-pub table_codec : {A : Type 0} (k : Kind) (cap : ℕ) (each : Reading A) (writes : A → List ℕ) (Fits : A → Type 0) → IsCodec each writes Fits → IsCodec (table_at k cap each) (tabled writes) (IsTableOf k cap Fits)
-unfolding table_at
+pub table_codec : {A : Type 0} (k : Kind) (cap : ℕ) (each : Reading A) (writes : A → List ℕ) (Fits : A → Type 0) → IsCodec each writes Fits → IsCodec (table_at k cap each) (table_bytes writes) (IsTableOf k cap Fits)
+unfolding table_at table_bytes
 table_codec {A} k cap each writes Fits codec =
-    let slots = counted_codec (option_at each) (optional writes) (λ o. Unit {0} × IsOption Fits o) (option_codec each writes Fits codec) (slot_count_at k cap) (IsSlotCount k cap) (slot_count_codec k cap) in
+    let slots = counted_codec (option_at each) (option_bytes writes) (λ o. Unit {0} × IsOption Fits o) (option_codec each writes Fits codec) (slot_count_at k cap) (IsSlotCount k cap) (slot_count_codec k cap) in
     let free = counted_codec id_at u32_bytes IsId id_codec (free_count_at k) (IsFreeCount k) (free_count_codec k) in
     record_codec table_of table_parts _ _ _ (λ t. refl) (λ t. refl) (and_codec _ _ _ _ _ _ slots free)

@@ -7,11 +7,13 @@ use Rattle.odb_fields.specs.Bytes.{AreBytes}
 use Rattle.odb_fields.specs.Fields.{u32_bytes, u8_bytes}
 use Rattle.odb_fields.specs.Reading.{Cursor, ReadsBack, Takes, unread, u32_at}
 use Rattle.odb_fields.proofs.Inputs.{AreBytes-taken, Takes-append, bind_ok, made_back, ok_is, then_back}
+use Rattle.saved_reader.specs.Bytes.{list_bytes, option_bytes}
 use Rattle.saved_reader.specs.Fields.{flag_at, is_between, number_at}
 use Rattle.saved_reader.specs.Parts.{filled_list_at, list_at, no_list_at, option_at, stated_at}
 use Rattle.saved_reader.specs.Reading.{Reading, made, many_at, plain, with_first, ◌by◌}
-use Rattle.saved_reader.proofs.Codec.{IsCodec, by_codec}
-use Rattle.saved_reader.proofs.Single.{IsNumber, flag_codec, flag_number, number_codec, such_passes}
+use Rattle.saved_reader.specs.Lawful.{IsFilledList, IsList, IsNumber, IsOption}
+use Rattle.saved_reader.proofs.Codec.{IsCodec, by_codec, same_codec}
+use Rattle.saved_reader.proofs.Single.{flag_codec, flag_number, number_codec, such_passes}
 
 -- nothing is taken
 Takes-none : (input : Cursor) → Takes input [] input
@@ -53,34 +55,22 @@ module _ {A : Type 0} (each : Reading A) (writes : A → List ℕ) (Fits : A →
 
   -- a count, read by any reading, and so many items
   pub counted_codec : (count : Reading ℕ) (IsCount : ℕ → Type 0) → IsCodec count u32_bytes IsCount
-      → IsCodec (count by λ n. many_at n each) (λ xs. u32_bytes (length xs) ++ flat_map writes xs) (λ xs. IsCount (length xs) × AllByRecursion Fits xs)
+      → IsCodec (count by λ n. many_at n each) (list_bytes writes) (λ xs. IsCount (length xs) × AllByRecursion Fits xs)
+  unfolding list_bytes
   counted_codec count IsCount counts =
       by_codec count (λ n. many_at n each) u32_bytes (flat_map writes) IsCount (AllByRecursion Fits) length counts many_back (many_count each) many_only
-
--- a list of at most so many items that fit
-abbrev pub IsList : {A : Type 0} → ℕ → (A → Type 0) → List A → Type 0
-IsList most Fits xs = IsNumber 0 most (length xs) × AllByRecursion Fits xs
-
--- such a list of at least one item
-abbrev pub IsFilledList : {A : Type 0} → ℕ → (A → Type 0) → List A → Type 0
-IsFilledList most Fits xs = IsNumber 1 most (length xs) × AllByRecursion Fits xs
 
 -- the bytes behind the flag
 abbrev pub stated_bytes : {A : Type 0} → (A → List ℕ) → Option A → List ℕ
 stated_bytes writes None = []
 stated_bytes writes (Some x) = writes x
 
--- where there is a value, it fits
-abbrev pub IsOption : {A : Type 0} → (A → Type 0) → Option A → Type 0
-IsOption Fits None = Unit {0}
-IsOption Fits (Some x) = Fits x
-
 module _ {A : Type 0} (each : Reading A) (writes : A → List ℕ) (Fits : A → Type 0) (codec : IsCodec each writes Fits) where
-  pub list_codec : (most : ℕ) → IsCodec (list_at most each) (λ xs. u32_bytes (length xs) ++ flat_map writes xs) (IsList most Fits)
+  pub list_codec : (most : ℕ) → IsCodec (list_at most each) (list_bytes writes) (IsList most Fits)
   unfolding list_at
   list_codec most = counted_codec each writes Fits codec (number_at 0 most) (IsNumber 0 most) (number_codec 0 most)
 
-  pub filled_list_codec : (most : ℕ) → IsCodec (filled_list_at most each) (λ xs. u32_bytes (length xs) ++ flat_map writes xs) (IsFilledList most Fits)
+  pub filled_list_codec : (most : ℕ) → IsCodec (filled_list_at most each) (list_bytes writes) (IsFilledList most Fits)
   unfolding filled_list_at
   filled_list_codec most = counted_codec each writes Fits codec (number_at 1 most) (IsNumber 1 most) (number_codec 1 most)
 
@@ -104,9 +94,14 @@ module _ {A : Type 0} (each : Reading A) (writes : A → List ℕ) (Fits : A →
       let whole : P (Some u.0.0, u.0.1) = λ f. codec.only old u.0.1 u.0.0 are u.1 f in
       subst P (ok_is (Some u.0.0, u.0.1) (o, new) u.2) whole fits
 
-  pub option_codec : IsCodec (option_at each) (λ o. u8_bytes (flag_number (is_some o)) ++ stated_bytes writes o) (λ o. Unit {0} × IsOption Fits o)
+  option_is : (o : Option A) → u8_bytes (flag_number (is_some o)) ++ stated_bytes writes o ≡ option_bytes writes o
+  unfolding option_bytes u8_bytes
+  option_is None = refl
+  option_is (Some x) = refl
+
+  pub option_codec : IsCodec (option_at each) (option_bytes writes) (λ o. Unit {0} × IsOption Fits o)
   unfolding option_at
-  option_codec = by_codec flag_at (stated_at each) (λ b. u8_bytes (flag_number b)) (stated_bytes writes) (λ b. Unit {0}) (IsOption Fits) is_some flag_codec stated_back stated_told stated_only
+  option_codec = same_codec (option_at each) (λ o. u8_bytes (flag_number (is_some o)) ++ stated_bytes writes o) (option_bytes writes) (λ o. Unit {0} × IsOption Fits o) (λ o fits. option_is o) (by_codec flag_at (stated_at each) (λ b. u8_bytes (flag_number b)) (stated_bytes writes) (λ b. Unit {0}) (IsOption Fits) is_some flag_codec stated_back stated_told stated_only)
 
 -- no items, whatever the number
 abbrev none_of : {A : Type 0} → ℕ → List A
@@ -137,8 +132,8 @@ below_none : (n : ℕ) → is_between 0 0 n ≡ true → n ≡ 0
 below_none n h = let p = and_parts (leb 0 n) (leb n 0) h in grind (arith, nat_tests, p.1)
 
 -- a list that has no items yet
-pub no_list_codec : {A : Type 0} (writes : A → List ℕ) → IsCodec no_list_at (λ xs. u32_bytes (length xs) ++ flat_map writes xs) (λ xs. xs ≡ [])
-unfolding no_list_at number_at
+pub no_list_codec : {A : Type 0} (writes : A → List ℕ) → IsCodec no_list_at (list_bytes writes) (λ xs. xs ≡ [])
+unfolding no_list_at number_at list_bytes
 no_list_codec writes =
     nothing_codec (number_at 0 0) (IsNumber 0 0) writes (number_codec 0 0) (refl, omega arith)
     (λ old new n e. below_none n (such_passes (is_between 0 0) (plain u32_at) old new n e))

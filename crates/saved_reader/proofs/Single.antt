@@ -9,9 +9,10 @@ use Rattle.odb_fields.specs.Fields.{i32_bytes, text_bytes, u32_bytes, u8_bytes}
 use Rattle.odb_fields.specs.Reading.{Cursor, bytes_at, i32_at, u32_at, u8_at}
 use Rattle.odb_fields.proofs.Inputs.{bind_ok, bytes_back, bytes_only, with_fault_back, with_fault_ok}
 use Rattle.odb_fields.proofs.Numbers.{i32_back, i32_only, u32_back, u32_only, u8_back, u8_only}
-use Rattle.saved_reader.specs.declared.fault.ReadFault.TheVariants as fault
+use Rattle.saved_reader.specs.Fault as fault
 use Rattle.saved_reader.specs.Fields.{coded, coded_at, distance_at, flag_at, flag_of, id_at, is_between, is_name, name_at, number_at, small_at, such, text_at, word_at}
 use Rattle.saved_reader.specs.Reading.{Reading, given, judged, plain}
+use Rattle.saved_reader.specs.Lawful.{IsDistance, IsId, IsNameText, IsNumber, IsSmall, IsText, IsWord}
 use Rattle.saved_reader.proofs.Codec.{IsCodec, by_codec, given_ok, judged_codec, plain_codec}
 
 -- ---- fields as they stand
@@ -51,33 +52,17 @@ pub such_codec : {A : Type 0} (passes : A → Bool) (reads : Reading A) (writes 
 such_codec passes reads writes Fits codec =
     judged_codec (such passes) (λ x. x) reads writes Fits (λ x. (passes x ≡ true) × Fits x) (λ y fits. rw fits.0 refl) (such_is passes) (λ y fits. fits.1) codec
 
--- an identifier of 32 bits
-abbrev pub IsId : ℕ → Type 0
-IsId n = n < 2 ^ 32
-
 pub id_codec : IsCodec id_at u32_bytes IsId
 unfolding id_at
 id_codec = u32_codec
-
--- a number from the least to the most, of 32 bits
-abbrev pub IsNumber : ℕ → ℕ → ℕ → Type 0
-IsNumber least most n = (is_between least most n ≡ true) × (n < 2 ^ 32)
 
 pub number_codec : (least most : ℕ) → IsCodec (number_at least most) u32_bytes (IsNumber least most)
 unfolding number_at
 number_codec least most = such_codec (is_between least most) (plain u32_at) u32_bytes (λ n. n < 2 ^ 32) u32_codec
 
--- a number of at most this, of eight bits
-abbrev pub IsSmall : ℕ → ℕ → Type 0
-IsSmall most n = (is_between 0 most n ≡ true) × (n < 2 ^ 8)
-
 pub small_codec : (most : ℕ) → IsCodec (small_at most) u8_bytes (IsSmall most)
 unfolding small_at
 small_codec most = such_codec (is_between 0 most) (plain u8_at) u8_bytes (λ n. n < 2 ^ 8) u8_codec
-
--- a distance that passes, of 32 bits
-abbrev pub IsDistance : (ℤ → Bool) → ℤ → Type 0
-IsDistance passes z = (passes z ≡ true) × FitsSigned w32 z
 
 pub distance_codec : (passes : ℤ → Bool) → IsCodec (distance_at passes) i32_bytes (IsDistance passes)
 unfolding distance_at
@@ -133,10 +118,6 @@ coded_codec code_of every set =
 
 -- ---- texts
 
--- a text with so many bytes, from the least to the most
-abbrev pub IsText : ℕ → ℕ → List ℕ → Type 0
-IsText least most bytes = IsNumber least most (length bytes) × Unit {0}
-
 pub text_codec : (least most : ℕ) → IsCodec (text_at least most) text_bytes (IsText least most)
 unfolding text_at text_bytes
 text_codec least most =
@@ -146,17 +127,9 @@ text_codec least most =
     (λ count old new bytes e. sym (bytes_only count old new bytes (with_fault_ok (λ cut. fault.Cut cut.at) (bytes_at count old) (bytes, new) e)).1)
     (λ count old new bytes are e fits. (bytes_only count old new bytes (with_fault_ok (λ cut. fault.Cut cut.at) (bytes_at count old) (bytes, new) e)).0)
 
--- a name, as a text
-abbrev pub IsNameText : List ℕ → Type 0
-IsNameText bytes = (is_name bytes ≡ true) × IsText 1 4095 bytes
-
 pub name_codec : IsCodec name_at text_bytes IsNameText
 unfolding name_at
 name_codec = such_codec is_name (text_at 1 4095) text_bytes (IsText 1 4095) (text_codec 1 4095)
-
--- just this text
-abbrev pub IsWord : List ℕ → List ℕ → Type 0
-IsWord word bytes = (bytes_eq word bytes ≡ true) × IsText (length word) (length word) bytes
 
 pub word_codec : (word : List ℕ) → IsCodec (word_at word) text_bytes (IsWord word)
 unfolding word_at

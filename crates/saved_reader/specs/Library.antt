@@ -1,30 +1,39 @@
--- A library.
+-- A library, one table of fields for each record.
 use Rattle.std.specs.Prelude.{List, ℕ, ℤ}
-use Rattle.odb_base.specs.Direction.{direction_code, directions}
-use Rattle.odb_base.specs.Usage.{usage_code, usages}
 use Rattle.odb_base.specs.declared.codes.direction.Direction.{Direction}
 use Rattle.odb_base.specs.declared.codes.usage.Usage.{Usage}
 use Rattle.odb_base.specs.declared.geometry.Shape.{Shape}
 use Rattle.library.specs.declared.master.Master.{Master}
 use Rattle.library.specs.declared.mterm.MTerm.{MTerm}
-use Rattle.saved_reader.specs.Fields.{any_text_at, coded_at, coordinate_at, id_at, name_at, small_at}
-use Rattle.saved_reader.specs.Parts.{list_at, shape_at}
-use Rattle.saved_reader.specs.Reading.{Reading, made, ◌&◌}
+use Rattle.saved_reader.specs.FieldFormats.{any_text_field, coordinate_field, direction_field, id_field, name_field, small_field, usage_field}
+use Rattle.saved_reader.specs.Format.{Format, fields, list, ◌&◌}
+use Rattle.saved_reader.specs.PartFormats.{shapes_field}
 
 -- the terminal of a master of these fields
 abbrev pub mterm_of : ((List ℕ × Direction) × Usage) × List Shape → MTerm
 mterm_of t = record { name = t.0.0.0; direction = t.0.0.1; usage = t.0.1; shapes = t.1 }
 
 -- a terminal of a master
-unfoldable pub mterm_at : Reading MTerm
-mterm_at input = made mterm_of (name_at & coded_at direction_code directions & coded_at usage_code usages & list_at 1000000 shape_at) input
+unfoldable pub mterm_format : Format MTerm
+mterm_format = fields mterm_of (λ t. (((t.name, t.direction), t.usage), t.shapes)) (
+    name_field & direction_field & usage_field & shapes_field
+    )
 
 -- the origin of a master, and its size
-unfoldable pub extent_at : Reading (((ℤ × ℤ) × ℤ) × ℤ)
-extent_at input = (coordinate_at & coordinate_at & coordinate_at & coordinate_at) input
+abbrev pub Extent : Type 0
+Extent = ((ℤ × ℤ) × ℤ) × ℤ
+
+abbrev pub extent_of : Master → Extent
+extent_of m = (((m.origin_x, m.origin_y), m.width), m.height)
+
+unfoldable pub extent_field : Format Extent
+extent_field = coordinate_field & coordinate_field & coordinate_field & coordinate_field
+
+abbrev pub MasterFields : Type 0
+MasterFields = ((((((List ℕ × List ℕ) × Extent) × ℕ) × ℕ) × List ℕ) × List MTerm) × List Shape
 
 -- the master of these fields
-abbrev pub master_of : (((((((List ℕ × List ℕ) × (((ℤ × ℤ) × ℤ) × ℤ)) × ℕ) × ℕ) × List ℕ) × List MTerm) × List Shape) → Master
+abbrev pub master_of : MasterFields → Master
 master_of t =
     let extent = t.0.0.0.0.0.1 in
     record {
@@ -41,13 +50,15 @@ master_of t =
       obstructions = t.1;
     }
 
+abbrev pub master_fields : Master → MasterFields
+master_fields m = (((((((m.name, m.class), extent_of m), m.symmetry), m.site), m.foreign), m.terminals), m.obstructions)
+
 -- a master
-unfoldable pub master_at : Reading Master
-master_at input = made master_of (
-    name_at & any_text_at & extent_at & small_at 7 & id_at & any_text_at
-    & list_at 65535 mterm_at & list_at 1000000 shape_at
-    ) input
+unfoldable pub master_format : Format Master
+master_format = fields master_of master_fields (
+    name_field & any_text_field & extent_field & small_field 7 & id_field & any_text_field & list 65535 mterm_format & shapes_field
+    )
 
 -- the masters, in the order of their identifiers
-unfoldable pub library_at : Reading (List Master)
-library_at input = list_at 1000000 master_at input
+unfoldable pub library_format : Format (List Master)
+library_format = list 1000000 master_format

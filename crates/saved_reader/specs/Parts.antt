@@ -10,14 +10,13 @@ use Rattle.odb_base.specs.declared.codes.place_status.PlaceStatus.{PlaceStatus}
 use Rattle.odb_base.specs.declared.codes.place_status.PlaceStatus.TheVariants as status
 use Rattle.odb_base.specs.declared.geometry.Placement.{Placement}
 use Rattle.odb_base.specs.declared.geometry.Rect.{Rect}
-use Rattle.odb_base.specs.declared.geometry.Shape.{Shape}
 use Rattle.odb_fields.specs.Reading.{Cursor, u32_at, u8_at, ◌>>=◌}
 use Rattle.slot_pool.specs.Table.{Table}
 use Rattle.lawful_parts.specs.Tests.{is_coordinate}
-use Rattle.saved_reader.specs.declared.fault.ReadFault.{ReadFault}
-use Rattle.saved_reader.specs.declared.fault.ReadFault.TheVariants as fault
+use Rattle.saved_reader.specs.Fault as fault
+use Rattle.saved_reader.specs.Fault.{Fault}
 use Rattle.saved_reader.specs.Fields.{coded_at, coordinate_at, distance_at, flag_at, id_at, is_from, number_at, such}
-use Rattle.saved_reader.specs.Reading.{Reading, judged, made, many_at, plain, ◌&◌, ◌by◌, ◌then◌}
+use Rattle.saved_reader.specs.Reading.{Reading, both, judged, made, many_at, plain, ◌by◌, ◌then◌}
 
 module _ {A : Type 0} where
   -- a list of at most so many items: how many, which is judged before they are looked for, and they
@@ -48,10 +47,6 @@ none_if_0 n = if n == 0 then Some None else None
 -- what may be absent, and isn't there yet: the flag 0
 unfoldable pub absent_at : {A : Type 0} → Reading (Option A)
 absent_at input = judged none_if_0 (plain u8_at) input
-
--- identifiers
-abbrev pub ids_at : Reading (List ℕ)
-ids_at input = list_at 4294967295 id_at input
 
 -- a coordinate of what has this status; what is unplaced stands at 0
 abbrev pub may_stand : PlaceStatus → ℤ → Bool
@@ -92,18 +87,10 @@ rect_of t = record { xl = t.0.0.0; yl = t.0.0.1; xh = t.0.1; yh = t.1 }
 -- a rectangle: its lower left corner, and its upper right one, which is neither left of it nor below it
 unfoldable pub rect_at : Reading Rect
 rect_at input = made rect_of (
-    coordinate_at & coordinate_at
+    both coordinate_at coordinate_at
     then (λ t. distance_at (is_from t.0))
     then (λ t. distance_at (is_from t.0.1))
     ) input
-
--- the rectangle on the layer of this identifier
-abbrev pub shape_of : ℕ × Rect → Shape
-shape_of t = record { layer = record { 0 = t.0 }; rect = t.1 }
-
--- a rectangle on a layer: the layer, and the rectangle
-unfoldable pub shape_at : Reading Shape
-shape_at input = made shape_of (id_at & rect_at) input
 
 -- the number, where four bytes can hold it, and else 0
 abbrev pub fitting : ℕ → ℕ
@@ -116,7 +103,7 @@ term_number t = if kind_code t.0 == 2 then fitting (2 * t.1) else if kind_code t
 
 -- a terminal of a net: its kind, and its identifier
 unfoldable pub term_at : Reading ℕ
-term_at input = made term_number (coded_at kind_code kinds & id_at) input
+term_at input = made term_number (both (coded_at kind_code kinds) id_at) input
 
 -- ---- tables
 
@@ -127,7 +114,7 @@ is_built kind.ITerm = true
 is_built kind.Net = true
 is_built kind.BTerm = true
 is_built kind.Pin = false
-is_built kind.Row = false
+is_built kind.Row = true
 is_built kind.Track = false
 is_built kind.Wire = false
 is_built kind.Blockage = false
@@ -140,7 +127,7 @@ abbrev pub may_have : Kind → ℕ → Bool
 may_have k n = is_built k || (n == 0)
 
 -- a number of slots within the cap
-abbrev pub within_cap : Kind → ℕ → ℕ × Cursor → Result (ℕ × Cursor) ReadFault
+abbrev pub within_cap : Kind → ℕ → ℕ × Cursor → Result (ℕ × Cursor) Fault
 within_cap k cap p = if nat_lt cap p.0 then Err (fault.OverCap k) else Ok p
 
 -- how many slots a table has
@@ -157,7 +144,7 @@ table_of t = record { slots = t.0; free = t.1 }
 
 -- a table: its slots, each empty or with a record, and its free identifiers, top first
 unfoldable pub table_at : {A : Type 0} → Kind → ℕ → Reading A → Reading (Table A)
-table_at k cap each input = made table_of (
+table_at k cap each input = made table_of (both
     (slot_count_at k cap by λ count. many_at count (option_at each))
-    & (free_count_at k by λ count. many_at count id_at)
+    (free_count_at k by λ count. many_at count id_at)
     ) input

@@ -3,18 +3,20 @@ use Rattle.std.specs.Prelude.{◌≡◌, List, [], ◌∷◌, ℕ, zero, suc, Op
 use Rattle.odb_fields.specs.declared.get.Cut.{Cut}
 use Rattle.odb_fields.specs.Reading.{Cursor, ◌>>=◌, with_fault}
 use Rattle.saved_reader.specs.declared.fault.ReadFault.{ReadFault}
-use Rattle.saved_reader.specs.declared.fault.ReadFault.TheVariants as fault
+use Rattle.saved_reader.specs.declared.fault.ReadFault.TheVariants as told
+use Rattle.saved_reader.specs.Fault as fault
+use Rattle.saved_reader.specs.Fault.{Fault}
 
 -- what reading gives at a place of an input
 abbrev pub Reading : Type 0 → Type 0
-Reading A = Cursor → Result (A × Cursor) ReadFault
+Reading A = Cursor → Result (A × Cursor) Fault
 
 -- a field, of which only the end of the input can be at fault
 abbrev pub plain : {A : Type 0} → (Cursor → Result (A × Cursor) Cut) → Reading A
 plain read input = with_fault (λ cut. fault.Cut cut.at) (read input)
 
 -- a value, where there is one, and else a fault at this place
-abbrev pub given : {A : Type 0} → ℕ → Option A → Cursor → Result (A × Cursor) ReadFault
+abbrev pub given : {A : Type 0} → ℕ → Option A → Cursor → Result (A × Cursor) Fault
 given at (Some x) after = Ok (x, after)
 given at None after = Err (fault.BadField at)
 
@@ -37,12 +39,11 @@ abbrev pub ◌then◌ : {A B : Type 0} → Reading A → (A → Reading B) → R
 (first then next) input = first input >>= λ p. next p.0 p.1 >>= λ q. Ok ((p.0, q.0), q.1)
 
 -- one reading and another, and the values of both
-infixl 10 ◌&◌
-abbrev pub ◌&◌ : {A B : Type 0} → Reading A → Reading B → Reading (A × B)
-(first & second) input = first input >>= λ p. second p.1 >>= λ q. Ok ((p.0, q.0), q.1)
+abbrev pub both : {A B : Type 0} → Reading A → Reading B → Reading (A × B)
+both first second input = first input >>= λ p. second p.1 >>= λ q. Ok ((p.0, q.0), q.1)
 
 -- an item before those that were read
-abbrev pub with_first : {A : Type 0} → A → Result (List A × Cursor) ReadFault → Result (List A × Cursor) ReadFault
+abbrev pub with_first : {A : Type 0} → A → Result (List A × Cursor) Fault → Result (List A × Cursor) Fault
 with_first x rest = rest >>= λ p. Ok (x ∷ p.0, p.1)
 
 -- so many, one after another
@@ -53,20 +54,20 @@ many_at (suc n) each input = each input >>= λ p. with_first p.0 (many_at n each
 -- ---- what calls say
 
 -- the call failed for this reason, which is that of reading, or want of memory
-abbrev pub Fails : {A : Type 0} → ReadFault → Result A ReadFault → Type 0
-Fails fault.Memory read = Unit {0}
-Fails fault.NotSaved read = read ≡ Err fault.NotSaved
-Fails (fault.Version got) read = read ≡ Err (fault.Version got)
-Fails (fault.Cut at) read = read ≡ Err (fault.Cut at)
-Fails (fault.BadField at) read = read ≡ Err (fault.BadField at)
-Fails (fault.OverCap kind) read = read ≡ Err (fault.OverCap kind)
-Fails (fault.Trailing at) read = read ≡ Err (fault.Trailing at)
+abbrev pub Fails : {A : Type 0} → ReadFault → Result A Fault → Type 0
+Fails told.Memory read = Unit {0}
+Fails told.NotSaved read = read ≡ Err fault.NotSaved
+Fails (told.Version got) read = read ≡ Err (fault.Version got)
+Fails (told.Cut at) read = read ≡ Err (fault.Cut at)
+Fails (told.BadField at) read = read ≡ Err (fault.BadField at)
+Fails (told.OverCap kind) read = read ≡ Err (fault.OverCap kind)
+Fails (told.Trailing at) read = read ≡ Err (fault.Trailing at)
 
 -- what a call answered, seen by a view, is what reading gives, and it left the input where reading ends
-abbrev pub ReadsAs : {X A : Type 0} → (X → A) → Result X ReadFault → Result (A × Cursor) ReadFault → Cursor → Type 0
+abbrev pub ReadsAs : {X A : Type 0} → (X → A) → Result X ReadFault → Result (A × Cursor) Fault → Cursor → Type 0
 ReadsAs view (Ok x) read after = read ≡ Ok (view x, after)
 ReadsAs view (Err f) read after = Fails f read
 
 -- what a call answered is what reading gives, and it left the input where reading ends
-abbrev pub Reads : {A : Type 0} → Result A ReadFault → Result (A × Cursor) ReadFault → Cursor → Type 0
+abbrev pub Reads : {A : Type 0} → Result A ReadFault → Result (A × Cursor) Fault → Cursor → Type 0
 Reads answer read after = ReadsAs (λ x. x) answer read after

@@ -1,13 +1,10 @@
 -- A whole saved database.
-use Rattle.std.specs.Prelude.{◌≡◌, ◌==◌, List, ℕ, Option, Result, Ok, Err, if◌then◌else◌, codes, length}
+use Rattle.std.specs.Prelude.{◌≡◌, ◌==◌, List, ℕ, Result, Ok, Err, if◌then◌else◌, codes, length}
 use Rattle.std.specs.Str.{bytes_eq}
 use Rattle.odb_base.specs.declared.codes.kind.Kind.TheVariants as kind
-use Rattle.odb_base.specs.declared.geometry.Rect.{Rect}
 use Rattle.odb_fields.specs.declared.get.Cut.{Cut}
 use Rattle.odb_fields.specs.Reading.{Cursor, bytes_at, u32_at, ◌>>=◌}
-use Rattle.block_records.specs.declared.header.BlockVia.{BlockVia}
 use Rattle.block_records.specs.declared.header.Header.{Header}
-use Rattle.block_records.specs.declared.header.PropDef.{PropDef}
 use Rattle.block_records.specs.declared.blockage.BlockageRec.{BlockageRec}
 use Rattle.block_records.specs.declared.iterm.ITermRec.{ITermRec}
 use Rattle.block_records.specs.declared.pin.PinRec.{PinRec}
@@ -25,57 +22,42 @@ use Rattle.library.specs.declared.master.Master.{Master}
 use Rattle.slot_pool.specs.Table.{Table}
 use Rattle.tech.specs.Technology.{Technology}
 use Rattle.saved_reader.specs.declared.fault.ReadFault.{ReadFault}
-use Rattle.saved_reader.specs.declared.fault.ReadFault.TheVariants as fault
 use Rattle.saved_reader.specs.declared.saved.Saved.{Saved}
-use Rattle.saved_reader.specs.Fields.{no_text_at, word_at}
-use Rattle.saved_reader.specs.Grouping.{group_at, prop_at, region_at}
-use Rattle.saved_reader.specs.Library.{library_at}
-use Rattle.saved_reader.specs.Technology.{tech_at}
-use Rattle.saved_reader.specs.Objects.{bterm_at, inst_at, iterm_at, net_at}
-use Rattle.saved_reader.specs.Parts.{absent_at, no_list_at, table_at}
-use Rattle.saved_reader.specs.Physical.{blockage_at, pin_at, row_at, track_at, wire_at}
-use Rattle.saved_reader.specs.Reading.{Fails, Reading, made, plain, ◌&◌}
+use Rattle.saved_reader.specs.Fault as fault
+use Rattle.saved_reader.specs.Fault.{Fault}
+use Rattle.saved_reader.specs.Format.{Format, fields, ◌&◌}
+use Rattle.saved_reader.specs.Grouping.{group_format, prop_format, region_format}
+use Rattle.saved_reader.specs.Header.{header_format}
+use Rattle.saved_reader.specs.Library.{library_format}
+use Rattle.saved_reader.specs.Objects.{bterm_format, inst_format, iterm_format, net_format}
+use Rattle.saved_reader.specs.PartFormats.{table_field}
+use Rattle.saved_reader.specs.Physical.{blockage_format, pin_format, row_format, track_format, wire_format}
+use Rattle.saved_reader.specs.Reading.{Fails, Reading, both, made, plain}
+use Rattle.saved_reader.specs.Technology.{tech_format}
 
 -- ---- the block
-
--- the header of these fields
-abbrev pub header_of : ((((List ℕ × List ℕ) × List ℕ) × Option Rect) × List PropDef) × List BlockVia → Header
-header_of t = record {
-  design = t.0.0.0.0.0;
-  divider = t.0.0.0.0.1;
-  bus = t.0.0.0.1;
-  die = t.0.0.1;
-  definitions = t.0.1;
-  vias = t.1;
-}
-
--- the header, which is that of a new block yet
-unfoldable pub header_at : Reading Header
-header_at input = made header_of (no_text_at & word_at (codes "/") & word_at (codes "[]") & absent_at & no_list_at & no_list_at) input
 
 -- the tables of instances, their terminals, nets and block terminals
 abbrev pub Built : Type 0
 Built = ((Table InstEntry × Table ITermRec) × Table NetEntry) × Table BTermEntry
 
 -- the tables of the kinds that there are
-unfoldable pub built_at : ℕ → Reading Built
-built_at cap input = (
-    table_at kind.Inst cap inst_at & table_at kind.ITerm cap iterm_at
-    & table_at kind.Net cap net_at & table_at kind.BTerm cap bterm_at
-    ) input
+unfoldable pub built_format : ℕ → Format Built
+built_format cap =
+    table_field kind.Inst cap inst_format & table_field kind.ITerm cap iterm_format
+    & table_field kind.Net cap net_format & table_field kind.BTerm cap bterm_format
 
 -- the tables of pins, rows, tracks, wires, blockages, regions, groups and properties
 abbrev pub Others : Type 0
 Others = ((((((Table PinRec × Table RowEntry) × Table TrackRec) × Table WireRec) × Table BlockageRec) × Table RegionEntry) × Table GroupEntry) × Table PropRec
 
 -- the tables of the kinds that are still to come
-unfoldable pub others_at : ℕ → Reading Others
-others_at cap input = (
-    table_at kind.Pin cap pin_at & table_at kind.Row cap row_at
-    & table_at kind.Track cap track_at & table_at kind.Wire cap wire_at
-    & table_at kind.Blockage cap blockage_at & table_at kind.Region cap region_at
-    & table_at kind.Group cap group_at & table_at kind.Prop cap prop_at
-    ) input
+unfoldable pub others_format : ℕ → Format Others
+others_format cap =
+    table_field kind.Pin cap pin_format & table_field kind.Row cap row_format
+    & table_field kind.Track cap track_format & table_field kind.Wire cap wire_format
+    & table_field kind.Blockage cap blockage_format & table_field kind.Region cap region_format
+    & table_field kind.Group cap group_format & table_field kind.Prop cap prop_format
 
 -- the block of this header and these tables
 abbrev pub block_of : (Header × Built) × Others → Block
@@ -95,14 +77,18 @@ block_of t = record {
   prop = t.1.1;
 }
 
+abbrev pub block_parts : Block → (Header × Built) × Others
+block_parts b =
+    ((b.header, (((b.inst, b.iterm), b.net), b.bterm)), (((((((b.pin, b.row), b.track), b.wire), b.blockage), b.region), b.group), b.prop))
+
 -- the header, and the twelve tables in the order of the codes of their kinds
-unfoldable pub block_at : ℕ → Reading Block
-block_at cap input = made block_of (header_at & built_at cap & others_at cap) input
+unfoldable pub block_format : ℕ → Format Block
+block_format cap = fields block_of block_parts (header_format & built_format cap & others_format cap)
 
 -- ---- all of it
 
 -- the bytes are the mark
-abbrev pub marked : Result (List ℕ × Cursor) Cut → Result (Unit {0} × Cursor) ReadFault
+abbrev pub marked : Result (List ℕ × Cursor) Cut → Result (Unit {0} × Cursor) Fault
 marked (Ok p) = if bytes_eq p.0 (codes "ODBS") then Ok (tt, p.1) else Err fault.NotSaved
 marked (Err cut) = Err fault.NotSaved
 
@@ -111,7 +97,7 @@ unfoldable pub mark_at : Reading (Unit {0})
 mark_at input = marked (bytes_at 4 input)
 
 -- the number is the version that is read here
-abbrev pub known_version : ℕ × Cursor → Result (Unit {0} × Cursor) ReadFault
+abbrev pub known_version : ℕ × Cursor → Result (Unit {0} × Cursor) Fault
 known_version p = if p.0 == 1 then Ok (tt, p.1) else Err (fault.Version p.0)
 
 -- the version of the format
@@ -124,17 +110,17 @@ saved_of t = record { tech = t.0.0.1; library = t.0.1; tables = t.1 }
 
 -- the mark, the version, the technology, the library and the block
 unfoldable pub saved_at : ℕ → Reading Saved
-saved_at cap input = made saved_of (mark_at & version_at & tech_at & library_at & block_at cap) input
+saved_at cap input = made saved_of (both (both (both (both mark_at version_at) tech_format.at) library_format.at) (block_format cap).at) input
 
 -- what was read of so many bytes, where nothing stands behind it
-abbrev pub whole : {A : Type 0} → ℕ → A × Cursor → Result A ReadFault
+abbrev pub whole : {A : Type 0} → ℕ → A × Cursor → Result A Fault
 whole count p = if p.1.place == count then Ok p.0 else Err (fault.Trailing p.1.place)
 
 -- what these bytes are as a saved database with this cap, or their first fault
-unfoldable pub saved_in : ℕ → List ℕ → Result Saved ReadFault
+unfoldable pub saved_in : ℕ → List ℕ → Result Saved Fault
 saved_in cap bytes = saved_at cap (record { bytes = bytes; place = 0 }) >>= whole (length bytes)
 
 -- the call answered what reading gives, or that there is no memory
-abbrev pub Answers : {A : Type 0} → Result A ReadFault → Result A ReadFault → Type 0
+abbrev pub Answers : {A : Type 0} → Result A ReadFault → Result A Fault → Type 0
 Answers (Ok x) read = read ≡ Ok x
 Answers (Err f) read = Fails f read

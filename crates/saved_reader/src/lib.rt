@@ -1,4 +1,4 @@
-//! Reading a saved database from its bytes: what they spell, or the first fault from the front.
+//! The records of a saved database, as bytes: how each is written, and what bytes spell, or the first fault from the front.
 //!
 //! [`read_saved`] reads a mark, the version, a technology, the masters of a library, the header of a block and its
 //! twelve tables. A field is read and then judged by its set, its limit and its rule alone; one that isn't lawful is
@@ -7,8 +7,9 @@
 //! row is broken by the later of the fields that disagree. Whether what was read fits together (names, identifiers,
 //! lists and free identifiers) isn't judged.
 //!
-//! The definitions say of the record of each of the twelve kinds what its fields are and in which order they are read;
-//! they are put together of the readings of single fields. Objects of eight kinds are still to come: until then their
+//! A record is one table of fields, a `Format`: which values may be saved, their bytes, and how they are read. Beside it
+//! stand the calls that read the record and write it ([`lists::Spelled`], [`saves::Saves`], [`saves::SavesObject`]).
+//! Objects of eight kinds are still to come. Their records are read and written like the others, but until then their
 //! tables have no slots and no free identifiers, the header is that of a new block, a list that only they can fill is
 //! empty, and so are kept words, the code of a wire and the value of a property.
 //!
@@ -19,6 +20,7 @@
 pub mod fault;
 pub mod fields;
 pub mod grouping;
+pub mod header;
 pub mod lists;
 pub mod masters;
 pub mod objects;
@@ -26,6 +28,7 @@ pub mod parts;
 pub mod physical;
 pub mod reading;
 pub mod saved;
+pub mod saves;
 pub mod tables;
 pub mod technology;
 

@@ -1,32 +1,34 @@
-ghost use Rattle.std.specs.Prelude.{Result};
-ghost use Rattle.odb_fields.specs.Reading.{Cursor};
-ghost use Rattle.saved_reader.specs.declared.fault.ReadFault.{ReadFault as Fault};
+ghost use Rattle.saved_reader.specs.FieldFormats.{id_field};
 ghost use Rattle.saved_reader.specs.Fields.{id_at};
-ghost use Rattle.saved_reader.specs.Parts.{filled_list_at, ids_at, list_at, no_list_at, option_at, rect_at, shape_at, term_at};
+ghost use Rattle.saved_reader.specs.Format.{Format};
+ghost use Rattle.saved_reader.specs.PartFormats.{optional, rect_field, shape_format};
+ghost use Rattle.saved_reader.specs.Parts.{filled_list_at, list_at, no_list_at, term_at};
 ghost use Rattle.saved_reader.specs.Reading.{Reads, ReadsAs, many_at};
 
 use crate::fault::ReadFault;
 use crate::fields::{get_flag, get_id, get_number};
-use crate::parts::{get_rect, get_term};
+use crate::parts::{get_rect, get_term, put_rect};
+use crate::saves::Saves;
 use block_store::Ids;
 use odb_base::{LayerId, List, Rect, Shape};
-use odb_fields::Get;
-use std::alloc::Global;
+use odb_fields::{Get, Put};
+use std::alloc::{AllocError, Global};
 
 /// The greatest number of rectangles in one list, by themselves or on layers.
 pub const RECT_LIMIT: u32 = 1_000_000;
 
 /// What stands in the saved stream as an item of a list.
 pub trait Spelled: Drop {
-    ghost reads: { Cursor → Result (Self × Cursor) Fault };
+    // Its fields, and how they are read.
+    ghost format: { Format Self };
 
     /// Reads an item.
     fn get(alloc: Global, input: &mut Get<'_>) -> Result<Self, ReadFault>
-        ensures { Reads result (reads input.old) input.new };
+        ensures { Reads result (format.at input.old) input.new };
 }
 
 impl Spelled for u32 {
-    ghost reads = { id_at };
+    ghost format = { id_field };
 
     fn get(_alloc: Global, input: &mut Get<'_>) -> Result<u32, ReadFault> {
         get_id(input)
@@ -34,7 +36,7 @@ impl Spelled for u32 {
 }
 
 impl Spelled for Rect {
-    ghost reads = { rect_at };
+    ghost format = { rect_field };
 
     fn get(_alloc: Global, input: &mut Get<'_>) -> Result<Rect, ReadFault> {
         get_rect(input)
@@ -42,9 +44,9 @@ impl Spelled for Rect {
 }
 
 impl Spelled for Shape {
-    ghost reads = { shape_at };
+    ghost format = { shape_format };
 
-    #[tactic(auto, unfolding(crate::specs::Parts::shape_at))]
+    #[tactic(auto, unfolding(crate::specs::PartFormats::shape_format))]
     fn get(_alloc: Global, input: &mut Get<'_>) -> Result<Shape, ReadFault> {
         let layer = get_id(input)?;
         let rect = get_rect(input)?;
@@ -55,8 +57,31 @@ impl Spelled for Shape {
     }
 }
 
+impl Saves for Shape {
+    ghost bytes_of = { shape_format.bytes };
+
+    ghost fits = { λ _. Unit {0} };
+
+    #[tactic(auto, unfolding(crate::specs::PartFormats::shape_format))]
+    fn put(&self, put: &mut Put<'_>) -> Result<(), AllocError> {
+        put.put_u32(self.layer.0)?;
+        put_rect(put, &self.rect)?;
+        Ok(())
+    }
+}
+
+impl Saves for Rect {
+    ghost bytes_of = { rect_field.bytes };
+
+    ghost fits = { λ _. Unit {0} };
+
+    fn put(&self, put: &mut Put<'_>) -> Result<(), AllocError> {
+        put_rect(put, self)
+    }
+}
+
 impl<T: Spelled> Spelled for Option<T> {
-    ghost reads = { option_at T.reads };
+    ghost format = { optional T.format };
 
     #[tactic(auto, unfolding(crate::specs::Parts::option_at))]
     fn get(alloc: Global, input: &mut Get<'_>) -> Result<Option<T>, ReadFault> {
@@ -74,7 +99,7 @@ pub fn get_many<T: Spelled>(
     input: &mut Get<'_>,
     count: u32,
 ) -> Result<Vec<T>, ReadFault>
-    ensures { ReadsAs (λ items. items.items) result (many_at count T.reads input.old) input.new }
+    ensures { ReadsAs (λ items. items.items) result (many_at count T.format.at input.old) input.new }
 {
     let mut items = Vec::new(alloc);
     for _ in 0..count {
@@ -91,7 +116,7 @@ pub fn get_list<T: Spelled>(
     input: &mut Get<'_>,
     most: u32,
 ) -> Result<List<T>, ReadFault>
-    ensures { Reads result (list_at most T.reads input.old) input.new }
+    ensures { Reads result (list_at most T.format.at input.old) input.new }
 {
     let count = get_number(input, 0, most)?;
     let items = get_many(alloc, input, count)?;
@@ -105,30 +130,21 @@ pub fn get_filled_list<T: Spelled>(
     input: &mut Get<'_>,
     most: u32,
 ) -> Result<List<T>, ReadFault>
-    ensures { Reads result (filled_list_at most T.reads input.old) input.new }
+    ensures { Reads result (filled_list_at most T.format.at input.old) input.new }
 {
     let count = get_number(input, 1, most)?;
     let items = get_many(alloc, input, count)?;
     Ok(List::from_vec(items))
 }
 
-/// Reads a list of identifiers.
+/// Reads a list of at most so many identifiers.
 #[tactic(auto, unfolding(crate::specs::Parts::list_at))]
-pub fn get_ids(alloc: Global, input: &mut Get<'_>) -> Result<Ids, ReadFault>
-    ensures { Reads result (ids_at input.old) input.new }
+pub fn get_ids(alloc: Global, input: &mut Get<'_>, most: u32) -> Result<Ids, ReadFault>
+    ensures { Reads result (list_at most id_at input.old) input.new }
 {
-    let count = get_number(input, 0, u32::MAX)?;
+    let count = get_number(input, 0, most)?;
     let ids = get_many(alloc, input, count)?;
     Ok(Ids::from_vec(ids))
-}
-
-/// Reads a list of identifiers that has none yet.
-#[tactic(auto, unfolding(crate::specs::Parts::no_list_at))]
-pub fn get_no_ids(alloc: Global, input: &mut Get<'_>) -> Result<Ids, ReadFault>
-    ensures { Reads result (no_list_at input.old) input.new }
-{
-    let _count = get_number(input, 0, 0)?;
-    Ok(Ids::new(alloc))
 }
 
 /// Reads a list that has no items yet.
@@ -136,7 +152,7 @@ pub fn get_no_ids(alloc: Global, input: &mut Get<'_>) -> Result<Ids, ReadFault>
 pub fn get_no_list<T>(alloc: Global, input: &mut Get<'_>) -> Result<List<T>, ReadFault>
     ensures { Reads result (no_list_at input.old) input.new }
 {
-    let _count = get_number(input, 0, 0)?;
+    get_number(input, 0, 0)?;
     Ok(List::new(alloc))
 }
 

@@ -1,28 +1,30 @@
 ghost use Rattle.std.specs.Prelude.{◌≡◌};
-ghost use Rattle.saved_reader.specs.Objects.{block_direction_at, bterm_at, inst_at, is_of_block, iterm_at, net_at};
+ghost use Rattle.saved_reader.specs.Entries.{bterm_entry, inst_entry, net_entry};
+ghost use Rattle.saved_reader.specs.Objects.{block_direction_field, bterm_format, inst_format, is_of_block, iterm_format, net_format};
 ghost use Rattle.saved_reader.specs.Reading.{Reads};
 
 use crate::fault::ReadFault;
 use crate::fields::{get_coded, get_flag, get_id, get_name, get_no_text, get_number};
-use crate::lists::{Spelled, get_list, get_no_ids, get_terms};
-use crate::parts::get_place;
+use crate::lists::{Spelled, get_ids, get_list, get_terms};
+use crate::parts::{get_place, put_place};
+use crate::saves::{SavesObject, put_flag, put_list, put_members, put_terms};
 use block_records::{BTermRec, ITermRec, InstRec, NetRec};
-use block_store::{BTermEntry, InstEntry, NetEntry};
-use odb_base::Direction;
-use odb_fields::Get;
-use std::alloc::Global;
+use block_store::{BTermEntry, Block, InstEntry, ListOf, NetEntry};
+use odb_base::{BTermId, Coded, Direction, Kind, NetId};
+use odb_fields::{Get, Put};
+use std::alloc::{AllocError, Global};
 
 impl Spelled for InstEntry {
-    ghost reads = { inst_at };
+    ghost format = { inst_format };
 
-    #[tactic(auto, unfolding(crate::specs::Objects::inst_at))]
+    #[tactic(auto, unfolding(crate::specs::Objects::inst_format))]
     fn get(alloc: Global, input: &mut Get<'_>) -> Result<InstEntry, ReadFault> {
         let name = get_name(alloc, input)?;
         let master = get_id(input)?;
         let place = get_place(input)?;
         let group = get_number(input, 0, 0)?;
         let terminals = get_list(alloc, input, u32::MAX)?;
-        let props = get_no_ids(alloc, input)?;
+        let props = get_ids(alloc, input, 0)?;
         let kept = get_no_text(alloc, input)?;
         let fields = InstRec {
             name,
@@ -36,10 +38,28 @@ impl Spelled for InstEntry {
     }
 }
 
-impl Spelled for ITermRec {
-    ghost reads = { iterm_at };
+impl SavesObject for InstRec {
+    ghost bytes_of = { λ id r b. inst_format.bytes (inst_entry id r b) };
 
-    #[tactic(auto, unfolding(crate::specs::Objects::iterm_at))]
+    ghost fits = { λ id r b. inst_format.Has (inst_entry id r b) };
+
+    #[tactic(auto, unfolding(crate::specs::Objects::inst_format))]
+    fn put(&self, put: &mut Put<'_>, block: &Block, id: u32) -> Result<(), AllocError> {
+        put.put_text(self.name.bytes())?;
+        put.put_u32(self.master)?;
+        put_place(put, &self.place)?;
+        put.put_u32(self.group)?;
+        put_list(put, self.terminals.items())?;
+        put_members(put, block, ListOf::Props(Kind::Inst, id))?;
+        put.put_text(self.kept.bytes())?;
+        Ok(())
+    }
+}
+
+impl Spelled for ITermRec {
+    ghost format = { iterm_format };
+
+    #[tactic(auto, unfolding(crate::specs::Objects::iterm_format))]
     fn get(_alloc: Global, input: &mut Get<'_>) -> Result<ITermRec, ReadFault> {
         let inst = get_id(input)?;
         let index = get_id(input)?;
@@ -48,17 +68,31 @@ impl Spelled for ITermRec {
     }
 }
 
-impl Spelled for NetEntry {
-    ghost reads = { net_at };
+impl SavesObject for ITermRec {
+    ghost bytes_of = { λ _ r _. iterm_format.bytes r };
 
-    #[tactic(auto, unfolding(crate::specs::Objects::net_at))]
+    ghost fits = { λ _ r _. iterm_format.Has r };
+
+    #[tactic(auto, unfolding(crate::specs::Objects::iterm_format))]
+    fn put(&self, put: &mut Put<'_>, _block: &Block, _id: u32) -> Result<(), AllocError> {
+        put.put_u32(self.inst)?;
+        put.put_u32(self.index)?;
+        put.put_u32(self.net)?;
+        Ok(())
+    }
+}
+
+impl Spelled for NetEntry {
+    ghost format = { net_format };
+
+    #[tactic(auto, unfolding(crate::specs::Objects::net_format))]
     fn get(alloc: Global, input: &mut Get<'_>) -> Result<NetEntry, ReadFault> {
         let name = get_name(alloc, input)?;
         let usage = get_coded(input)?;
         let special = get_flag(input)?;
         let terms = get_terms(alloc, input)?;
-        let wires = get_no_ids(alloc, input)?;
-        let props = get_no_ids(alloc, input)?;
+        let wires = get_ids(alloc, input, 0)?;
+        let props = get_ids(alloc, input, 0)?;
         let kept = get_no_text(alloc, input)?;
         let special_kept = get_no_text(alloc, input)?;
         let fields = NetRec {
@@ -77,16 +111,35 @@ impl Spelled for NetEntry {
     }
 }
 
-impl Spelled for BTermEntry {
-    ghost reads = { bterm_at };
+impl SavesObject for NetRec {
+    ghost bytes_of = { λ id r b. net_format.bytes (net_entry id r b) };
 
-    #[tactic(auto, unfolding(crate::specs::Objects::bterm_at))]
+    ghost fits = { λ id r b. net_format.Has (net_entry id r b) };
+
+    #[tactic(auto, unfolding(crate::specs::Objects::net_format))]
+    fn put(&self, put: &mut Put<'_>, block: &Block, id: u32) -> Result<(), AllocError> {
+        put.put_text(self.name.bytes())?;
+        put.put_u8(self.usage.code())?;
+        put_flag(put, self.special)?;
+        put_terms(put, block, NetId(id))?;
+        put_members(put, block, ListOf::Wires(NetId(id)))?;
+        put_members(put, block, ListOf::Props(Kind::Net, id))?;
+        put.put_text(self.kept.bytes())?;
+        put.put_text(self.special_kept.bytes())?;
+        Ok(())
+    }
+}
+
+impl Spelled for BTermEntry {
+    ghost format = { bterm_format };
+
+    #[tactic(auto, unfolding(crate::specs::Objects::bterm_format))]
     fn get(alloc: Global, input: &mut Get<'_>) -> Result<BTermEntry, ReadFault> {
         let name = get_name(alloc, input)?;
         let net = get_id(input)?;
         let direction = get_block_direction(input)?;
         let usage = get_coded(input)?;
-        let pins = get_no_ids(alloc, input)?;
+        let pins = get_ids(alloc, input, 0)?;
         let kept = get_no_text(alloc, input)?;
         let fields = BTermRec {
             name,
@@ -99,10 +152,27 @@ impl Spelled for BTermEntry {
     }
 }
 
+impl SavesObject for BTermRec {
+    ghost bytes_of = { λ id r b. bterm_format.bytes (bterm_entry id r b) };
+
+    ghost fits = { λ id r b. bterm_format.Has (bterm_entry id r b) };
+
+    #[tactic(auto, unfolding(crate::specs::Objects::bterm_format, crate::specs::Objects::block_direction_field))]
+    fn put(&self, put: &mut Put<'_>, block: &Block, id: u32) -> Result<(), AllocError> {
+        put.put_text(self.name.bytes())?;
+        put.put_u32(self.net)?;
+        put.put_u8(self.direction.code())?;
+        put.put_u8(self.usage.code())?;
+        put_members(put, block, ListOf::Pins(BTermId(id)))?;
+        put.put_text(self.kept.bytes())?;
+        Ok(())
+    }
+}
+
 // Reads a direction that a terminal of the block may have.
-#[tactic(auto, unfolding(crate::specs::Objects::block_direction_at))]
+#[tactic(auto, unfolding(crate::specs::Objects::block_direction_field))]
 fn get_block_direction(input: &mut Get<'_>) -> Result<Direction, ReadFault>
-    ensures { Reads result (block_direction_at input.old) input.new }
+    ensures { Reads result (block_direction_field.at input.old) input.new }
 {
     let at = input.place();
     let direction = get_coded(input)?;

@@ -1,12 +1,16 @@
-ghost use Rattle.std.specs.Prelude.{◌≡◌};
+ghost use Rattle.std.specs.Prelude.{◌≡◌, ◌++◌, OnOk};
+ghost use Rattle.odb_fields.specs.Putting.{KeepsVector, bytes_in};
+ghost use Rattle.saved_reader.specs.Bytes.{place_bytes, rect_bytes, term_bytes};
 ghost use Rattle.saved_reader.specs.Fields.{distance_at};
 ghost use Rattle.saved_reader.specs.Parts.{absent_at, may_be_turned, may_stand, place_at, rect_at, term_at, term_number, turn_at, fitting as fitting_number};
 ghost use Rattle.saved_reader.specs.Reading.{Reads};
 
 use crate::fault::ReadFault;
 use crate::fields::{get_coded, get_coordinate, get_from, get_id, in_limit};
-use odb_base::{Kind, Orient, PlaceStatus, Placement, Rect};
-use odb_fields::Get;
+use crate::saves::put_distance;
+use odb_base::{Coded, Kind, Orient, PlaceStatus, Placement, Rect};
+use odb_fields::{Get, Put};
+use std::alloc::AllocError;
 
 /// Reads a rectangle: its lower left corner, and its upper right one, which is neither left of it nor below it.
 #[tactic(auto, unfolding(crate::specs::Parts::rect_at))]
@@ -129,4 +133,46 @@ fn fitting(number: u64) -> u32
     } else {
         0
     }
+}
+
+/// Appends a rectangle.
+#[tactic(auto, unfolding(crate::specs::Bytes::rect_bytes))]
+pub fn put_rect(put: &mut Put<'_>, rect: &Rect) -> Result<(), AllocError>
+    ensures ok { OnOk result (bytes_in put.new ≡ bytes_in put.old ++ rect_bytes rect.now) }
+    ensures vector { KeepsVector put.old put.new }
+{
+    put_distance(put, &rect.xl)?;
+    put_distance(put, &rect.yl)?;
+    put_distance(put, &rect.xh)?;
+    put_distance(put, &rect.yh)?;
+    Ok(())
+}
+
+/// Appends a placement.
+#[tactic(auto, unfolding(crate::specs::Bytes::place_bytes))]
+pub fn put_place(put: &mut Put<'_>, place: &Placement) -> Result<(), AllocError>
+    ensures ok { OnOk result (bytes_in put.new ≡ bytes_in put.old ++ place_bytes place.now) }
+    ensures vector { KeepsVector put.old put.new }
+{
+    put.put_u8(place.status.code())?;
+    put_distance(put, &place.x)?;
+    put_distance(put, &place.y)?;
+    put.put_u8(place.orientation.code())?;
+    Ok(())
+}
+
+/// Appends a terminal of a net: an even number is twice an instance terminal, an odd one is of the block.
+#[tactic(auto, unfolding(crate::specs::Bytes::term_bytes))]
+pub fn put_term(put: &mut Put<'_>, number: u32) -> Result<(), AllocError>
+    ensures ok { OnOk result (bytes_in put.new ≡ bytes_in put.old ++ term_bytes number) }
+    ensures vector { KeepsVector put.old put.new }
+{
+    let kind = if number % 2 == 0 {
+        Kind::ITerm
+    } else {
+        Kind::BTerm
+    };
+    put.put_u8(kind.code())?;
+    put.put_u32(number / 2)?;
+    Ok(())
 }

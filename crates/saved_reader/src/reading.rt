@@ -2,17 +2,15 @@ ghost use Rattle.std.specs.Prelude.{◌≤◌, IfOk};
 ghost use Rattle.odb_base.specs.declared.codes.kind.Kind.{Kind as AnyKind};
 ghost use Rattle.block_store.specs.Block.{slots_in};
 ghost use Rattle.saved_reader.specs.Reading.{Reads, ReadsAs};
-ghost use Rattle.saved_reader.specs.Saved.{Answers, block_at, built_at, header_at, mark_at, others_at, saved_at, saved_in, version_at};
+ghost use Rattle.saved_reader.specs.Saved.{Answers, block_format, built_format, mark_at, others_format, saved_at, saved_in, version_at};
 
 use crate::fault::ReadFault;
-use crate::fields::{get_no_text, get_word};
-use crate::lists::get_no_list;
+use crate::header::get_header;
 use crate::masters::get_library;
-use crate::parts::get_absent;
 use crate::saved::Saved;
 use crate::tables::get_table;
 use crate::technology::get_tech;
-use block_records::{BlockageRec, Header, ITermRec, PinRec, PropRec, TrackRec, WireRec};
+use block_records::{BlockageRec, ITermRec, PinRec, PropRec, TrackRec, WireRec};
 use block_store::{
     BTermEntry, GroupEntry, InstEntry, NetEntry, PlainTable, RegionEntry, RowEntry, Tables,
 };
@@ -86,9 +84,9 @@ fn get_version(input: &mut Get<'_>) -> Result<(), ReadFault>
     }
 }
 
-#[tactic(auto, unfolding(crate::specs::Saved::block_at))]
+#[tactic(auto, unfolding(crate::specs::Saved::block_format))]
 fn get_tables(alloc: Global, input: &mut Get<'_>, cap: u32) -> Result<Tables, ReadFault>
-    ensures { Reads result (block_at cap input.old) input.new }
+    ensures { Reads result ((block_format cap).at input.old) input.new }
 {
     let header = get_header(alloc, input)?;
     let built = get_built(alloc, input, cap)?;
@@ -110,26 +108,6 @@ fn get_tables(alloc: Global, input: &mut Get<'_>, cap: u32) -> Result<Tables, Re
     })
 }
 
-#[tactic(auto, unfolding(crate::specs::Saved::header_at))]
-fn get_header(alloc: Global, input: &mut Get<'_>) -> Result<Header, ReadFault>
-    ensures { Reads result (header_at input.old) input.new }
-{
-    let design = get_no_text(alloc, input)?;
-    let divider = get_word(alloc, input, b"/")?;
-    let bus = get_word(alloc, input, b"[]")?;
-    let die = get_absent(input)?;
-    let definitions = get_no_list(alloc, input)?;
-    let vias = get_no_list(alloc, input)?;
-    Ok(Header {
-        design,
-        divider,
-        bus,
-        die,
-        definitions,
-        vias,
-    })
-}
-
 // The tables of the kinds that there are.
 #[derive(Drop)]
 struct Built {
@@ -139,9 +117,9 @@ struct Built {
     bterm: PlainTable<BTermEntry>,
 }
 
-#[tactic(auto, unfolding(crate::specs::Saved::built_at))]
+#[tactic(auto, unfolding(crate::specs::Saved::built_format))]
 fn get_built(alloc: Global, input: &mut Get<'_>, cap: u32) -> Result<Built, ReadFault>
-    ensures { ReadsAs (λ b. (((b.inst, b.iterm), b.net), b.bterm)) result (built_at cap input.old) input.new }
+    ensures { ReadsAs (λ b. (((b.inst, b.iterm), b.net), b.bterm)) result ((built_format cap).at input.old) input.new }
 {
     let inst = get_table(alloc, input, Kind::Inst, cap)?;
     let iterm = get_table(alloc, input, Kind::ITerm, cap)?;
@@ -168,9 +146,9 @@ struct Others {
     prop: PlainTable<PropRec>,
 }
 
-#[tactic(auto, unfolding(crate::specs::Saved::others_at))]
+#[tactic(auto, unfolding(crate::specs::Saved::others_format))]
 fn get_others(alloc: Global, input: &mut Get<'_>, cap: u32) -> Result<Others, ReadFault>
-    ensures { ReadsAs (λ o. (((((((o.pin, o.row), o.track), o.wire), o.blockage), o.region), o.group), o.prop)) result (others_at cap input.old) input.new }
+    ensures { ReadsAs (λ o. (((((((o.pin, o.row), o.track), o.wire), o.blockage), o.region), o.group), o.prop)) result ((others_format cap).at input.old) input.new }
 {
     let pin = get_table(alloc, input, Kind::Pin, cap)?;
     let row = get_table(alloc, input, Kind::Row, cap)?;

@@ -18,7 +18,7 @@ pub fn get_table<T: Spelled>(
     kind: Kind,
     cap: u32,
 ) -> Result<PlainTable<T>, ReadFault>
-    ensures { Reads result (table_at kind cap T.reads input.old) input.new }
+    ensures { Reads result (table_at kind cap T.format.at input.old) input.new }
 {
     let slot_count = get_slot_count(input, kind, cap)?;
     let slots = get_many(alloc, input, slot_count)?;
@@ -69,9 +69,8 @@ fn is_built(kind: Kind) -> bool
     ensures { result ≡ may_have_objects kind }
 {
     match kind {
-        Kind::Inst | Kind::ITerm | Kind::Net | Kind::BTerm => true,
+        Kind::Inst | Kind::ITerm | Kind::Net | Kind::BTerm | Kind::Row => true,
         Kind::Pin
-        | Kind::Row
         | Kind::Track
         | Kind::Wire
         | Kind::Blockage

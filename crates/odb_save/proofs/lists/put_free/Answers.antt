@@ -1,7 +1,7 @@
 use Rattle.std.proofs.Common.{rules, ◌≡◌, []}
 use Rattle.block_store.specs.Block.{free_in}
 use Rattle.odb_fields.specs.Fields.{u32_bytes}
-use Rattle.odb_save.proofs.Appending.{list_appended}
+use Rattle.saved_reader.proofs.Appending.{list_appended}
 use Rattle.odb_save.proofs.lists.put_free.Goals as goal
 
 pub returns-clause-ok : goal.returns-clause-ok

@@ -2,7 +2,7 @@ use Rattle.std.proofs.Common.{◌≡◌, ◌++◌, ◌+◌, ◌<◌, List, ℕ, 
 use Rattle.std.specs.List.{flat_map}
 use Rattle.std.proofs.lemmas.List.{drop_more}
 use Rattle.std.proofs.lemmas.Option.{get_or_from_slice_get}
-use Rattle.odb_save.proofs.Appending.{one_appended}
+use Rattle.saved_reader.proofs.Appending.{one_appended}
 use Rattle.odb_save.proofs.lists.put_named.Goals as goal
 
 one_more : {A : Type 0} (bytes_of : A → List ℕ) (things : List A) (place : ℕ) (x : A) → place < length things → slice_get things place ≡ Some x
@@ -16,6 +16,6 @@ put-requires g c = c.requires c.loop-place.place c.thing_at.result.now c.thing_a
 
 pub loop-place-preserved : goal.loop-place-preserved
 loop-place-preserved g c = record {
-  bytes = one_appended _ _ _ _ _ _ c.in_ok-put.ensures.ok (one_more g.T.Saved.bytes_of c.args.things.now c.loop-place.place c.thing_at.result.now (omega arith) c.thing_at.ensures) c.loop-place.invariant.bytes;
+  bytes = one_appended _ _ _ _ _ _ c.in_ok-put.ensures.ok (one_more g.T.Saves.bytes_of c.args.things.now c.loop-place.place c.thing_at.result.now (omega arith) c.thing_at.ensures) c.loop-place.invariant.bytes;
   vector = c.in_ok-put.ensures.vector ∙ c.loop-place.invariant.vector;
 }

@@ -6,6 +6,6 @@ use Rattle.odb_save.proofs.lists.put_named.Given as goal
 
 abbrev pub invariant-loop-place : goal.invariant-loop-place
 invariant-loop-place g l = record {
-  bytes : bytes_in l.put ++ flat_map g.T.Saved.bytes_of (drop l.place l.things) ≡ bytes_in l.initial.put ++ flat_map g.T.Saved.bytes_of l.things;
+  bytes : bytes_in l.put ++ flat_map g.T.Saves.bytes_of (drop l.place l.things) ≡ bytes_in l.initial.put ++ flat_map g.T.Saves.bytes_of l.things;
   vector : KeepsVector l.fn.put l.put;
 }

@@ -1,7 +1,7 @@
 use Rattle.std.proofs.Common.{◌≡◌, ◌<◌, ap, ◌∙◌, arith}
 use Rattle.block_store.specs.Block.{slots_in}
 use Rattle.odb_save.specs.Kinds.{slots_behind}
-use Rattle.odb_save.proofs.Appending.{all_appended, one_appended}
+use Rattle.saved_reader.proofs.Appending.{all_appended, one_appended}
 use Rattle.odb_save.proofs.Written.{written_in}
 use Rattle.odb_save.proofs.tables.put_slots.Goals as goal
 

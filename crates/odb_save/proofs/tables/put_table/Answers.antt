@@ -1,5 +1,5 @@
 use Rattle.std.proofs.Common.{ap}
-use Rattle.odb_save.proofs.Fitting.{free_short}
+use Rattle.odb_save.proofs.SoundFields.{free_short}
 use Rattle.odb_save.proofs.Written.{table_appended}
 use Rattle.odb_save.proofs.tables.put_table.Goals as goal
 

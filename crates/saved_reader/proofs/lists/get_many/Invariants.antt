@@ -5,4 +5,4 @@ use Rattle.saved_reader.proofs.Gathered.{with_front}
 use Rattle.saved_reader.proofs.lists.get_many.Given as goal
 
 abbrev pub invariant-loop : goal.invariant-loop
-invariant-loop g l = with_front l.items.items (many_at (l.count - l.counter) g.T.Spelled.reads l.input) ≡ many_at l.count g.T.Spelled.reads l.fn.input
+invariant-loop g l = with_front l.items.items (many_at (l.count - l.counter) g.T.Spelled.format.at l.input) ≡ many_at l.count g.T.Spelled.format.at l.fn.input

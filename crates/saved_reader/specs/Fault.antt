@@ -1,0 +1,12 @@
+-- Why bytes spell no saved database.
+use Rattle.std.specs.Prelude.{ℕ}
+use Rattle.odb_base.specs.declared.codes.kind.Kind.{Kind}
+
+-- The first fault of the bytes, read from the front. Want of memory is none of them.
+pub data Fault : Type 0 where
+  NotSaved : Fault
+  Version : ℕ → Fault
+  Cut : ℕ → Fault
+  BadField : ℕ → Fault
+  OverCap : Kind → Fault
+  Trailing : ℕ → Fault
