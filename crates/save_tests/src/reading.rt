@@ -7,7 +7,7 @@ mod records;
 
 // The fields of a saved database in their order, each with a value that it may not have, or with nothing where it may
 // have any. There are a layer, a via and a site, a master with a terminal and an obstruction, an instance of it, a net
-// that joins the instance's terminal and one of the block, and two empty slots behind that net.
+// that joins the instance's terminal and one of the block, two empty slots behind that net, and a row.
 const TECHNOLOGY: [(&[u8], &[u8]); 24] = [
     (b"\xa0\x86\x01\0", b"\xa1\x86\x01\0"),
     (b"\x01\0\0\0", b"\x41\x42\x0f\0"),
@@ -128,6 +128,24 @@ const BLOCK_TERMINALS: [(&[u8], &[u8]); 9] = [
     (b"\0\0\0\0", b""),
 ];
 
+// A row of one site.
+const ROWS: [(&[u8], &[u8]); 14] = [
+    (b"\x01\0\0\0", b""),
+    (b"\x01", b"\x02"),
+    (b"\x01\0\0\0r", b"\x01\0\0\0;"),
+    (b"\x01\0\0\0", b""),
+    (b"\x0a\0\0\0", b"\x01\x94\x35\x77"),
+    (b"\xf6\xff\xff\xff", b"\xff\x6b\xca\x88"),
+    (b"\x05", b"\x08"),
+    (b"\0", b"\x03"),
+    (b"\x01\0\0\0", b"\x02\0\0\0"),
+    (b"\x01\0\0\0", b"\0\0\0\0"),
+    (b"\0\0\0\0", b"\x01\0\0\0"),
+    (b"\0\0\0\0", b"\xff\xff\xff\xff"),
+    (b"\0\0\0\0", b"\x01\0\0\0"),
+    (b"\0\0\0\0", b""),
+];
+
 // A table without slots and free identifiers, of a kind whose objects are still to come.
 const OTHER: [(&[u8], &[u8]); 2] = [(b"\0\0\0\0", b"\x01\0\0\0"), (b"\0\0\0\0", b"\x01\0\0\0")];
 
@@ -174,7 +192,9 @@ fn stream_with(alloc: Global, number: usize) -> Result<Stream, AllocError> {
     stream.put(&INSTANCE_TERMINALS)?;
     stream.put(&NETS)?;
     stream.put(&BLOCK_TERMINALS)?;
-    for _ in 0..8 {
+    stream.put(&OTHER)?;
+    stream.put(&ROWS)?;
+    for _ in 0..6 {
         stream.put(&OTHER)?;
     }
     Ok(stream)
@@ -205,7 +225,7 @@ fn a_cut_at_every_length(rt: HostRuntime) -> Result<(), Fail> {
 fn each_field_is_judged(rt: HostRuntime) -> Result<(), Fail> {
     let alloc = rt.alloc();
     let mut judged = 0u32;
-    for number in 1..116 {
+    for number in 1..128 {
         let changed = stream_with(alloc, number)?;
         if !changed.any {
             judged = judged.saturating_add(1);
@@ -215,7 +235,7 @@ fn each_field_is_judged(rt: HostRuntime) -> Result<(), Fail> {
             );
         }
     }
-    assert_eq!(rt; judged, 90);
+    assert_eq!(rt; judged, 99);
     Ok(())
 }
 

@@ -9,7 +9,7 @@
 //!
 //! A record is one table of fields, a `Format`: which values may be saved, their bytes, and how they are read. Beside it
 //! stand the calls that read the record and write it ([`lists::Spelled`], [`saves::Saves`], [`saves::SavesObject`]).
-//! Objects of eight kinds are still to come. Their records are read and written like the others, but until then their
+//! Objects of seven kinds are still to come. Their records are read and written like the others, but until then their
 //! tables have no slots and no free identifiers, the header is that of a new block, a list that only they can fill is
 //! empty, and so are kept words, the code of a wire and the value of a property.
 //!
