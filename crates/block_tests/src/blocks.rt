@@ -111,7 +111,10 @@ fn finds(rt: &impl Abort, block: &Block) {
 
 fn has_one_gone(rt: &impl Abort, block: &Block) {
     let mut live = block.ids(Kind::Net);
-    assert_eq!(rt; (live.next(), live.next(), live.next()), (Some(1), Some(3), None));
+    assert_eq!(rt;
+        (live.next(), live.next(), live.next()),
+        (Some(1), Some(3), None)
+    );
     let mut free = block.free_ids(Kind::Net);
     assert_eq!(rt; (free.next(), free.next()), (Some(2), None));
     assert!(rt; block.live_count(Kind::Net) == 2 && block.net(NetId(2)).is_none());

@@ -7,6 +7,7 @@ use Rattle.odb_base.specs.declared.codes.kind.Kind.{Kind}
 use Rattle.odb_base.specs.declared.codes.kind.Kind.TheVariants as kind
 use Rattle.odb_fields.specs.Bytes.{AreBytes}
 use Rattle.library.specs.declared.master.Master.{Master}
+use Rattle.tech.specs.Technology.{Technology}
 use Rattle.block_store.specs.Block.{Block, slots_in}
 use Rattle.block_store.specs.Database.{IsSoundDatabase}
 use Rattle.block_tables.specs.Places.{IsFirstFault, IsLeastInKind}
@@ -63,14 +64,14 @@ first_not Is (suc n) = surely_then (first_not Is n) (elim [
 
 -- ---- the first place that isn't sound
 
-module _ (library : List Master) (cap : ℕ) (b : Block) where
+module _ (tech : Technology) (library : List Master) (cap : ℕ) (b : Block) where
   -- a kind whose table is sound
-  of_records : (k : Kind) → IsSoundTable cap b k → (((id : ℕ) → id < slots_in k b + 1 → IsSoundRecord library b k id) ⊎ FirstNot (IsSoundRecord library b k)) → IsSoundKind library cap b k ⊎ ((id : ℕ) × IsFirstFault library cap b k id)
+  of_records : (k : Kind) → IsSoundTable cap b k → (((id : ℕ) → id < slots_in k b + 1 → IsSoundRecord tech library b k id) ⊎ FirstNot (IsSoundRecord tech library b k)) → IsSoundKind tech library cap b k ⊎ ((id : ℕ) × IsFirstFault tech library cap b k id)
   of_records k table (inl all) = inl (record { table = table; records = λ id. records id }) where
-    records : (id : ℕ) → IsSoundRecord library b k id
+    records : (id : ℕ) → IsSoundRecord tech library b k id
     records id = elim (cases_lt id (slots_in k b + 1)) [
       | inl within ↦ all id within
-      | inr past ↦ past_slots library b k id (omega (arith, past))
+      | inr past ↦ past_slots tech library b k id (omega (arith, past))
     ]
   of_records k table (inr first) = elim (cases_lt 0 first.0) [
     | inl some ↦ inr (
@@ -82,11 +83,11 @@ module _ (library : List Master) (cap : ℕ) (b : Block) where
         before = first.1.before;
       },
     )
-    | inr none ↦ absurd (first.1.this (at_zero library b k first.0 none))
+    | inr none ↦ absurd (first.1.this (at_zero tech library b k first.0 none))
   ]
 
-  of_table : (k : Kind) → (IsSoundTable cap b k ⊎ (¬ (IsSoundTable cap b k))) → Surely (IsSoundKind library cap b k ⊎ ((id : ℕ) × IsFirstFault library cap b k id))
-  of_table k (inl table) = surely_then (first_not (IsSoundRecord library b k) (slots_in k b + 1)) (λ found. surely (of_records k table found))
+  of_table : (k : Kind) → (IsSoundTable cap b k ⊎ (¬ (IsSoundTable cap b k))) → Surely (IsSoundKind tech library cap b k ⊎ ((id : ℕ) × IsFirstFault tech library cap b k id))
+  of_table k (inl table) = surely_then (first_not (IsSoundRecord tech library b k) (slots_in k b + 1)) (λ found. surely (of_records k table found))
   of_table k (inr not) = surely (inr (
     0,
     record {
@@ -98,14 +99,14 @@ module _ (library : List Master) (cap : ℕ) (b : Block) where
   ))
 
   -- a kind is sound, or has a first place that isn't
-  kind_judged : (k : Kind) → Surely (IsSoundKind library cap b k ⊎ ((id : ℕ) × IsFirstFault library cap b k id))
+  kind_judged : (k : Kind) → Surely (IsSoundKind tech library cap b k ⊎ ((id : ℕ) × IsFirstFault tech library cap b k id))
   kind_judged k = surely_then (surely_either (IsSoundTable cap b k)) (of_table k)
 
   abbrev Least : Type 0
-  Least = (k : Kind) × (id : ℕ) × IsLeastInKind library cap b k id
+  Least = (k : Kind) × (id : ℕ) × IsLeastInKind tech library cap b k id
 
   abbrev SoundUpTo : ℕ → Type 0
-  SoundUpTo n = (k : Kind) → kind_code k ≤ n → IsSoundKind library cap b k
+  SoundUpTo n = (k : Kind) → kind_code k ≤ n → IsSoundKind tech library cap b k
 
   codes_from : (k : Kind) → 1 ≤ kind_code k
   codes_from kind.Inst = lit≤ tt
@@ -122,7 +123,7 @@ module _ (library : List Master) (cap : ℕ) (b : Block) where
   codes_from kind.Prop = lit≤ tt
 
   -- a kind after those that are sound
-  next_kind : (n : ℕ) (k : Kind) → kind_code k ≡ n + 1 → IsSoundHeader library b → SoundUpTo n → (IsSoundKind library cap b k ⊎ ((id : ℕ) × IsFirstFault library cap b k id)) → SoundUpTo (suc n) ⊎ Least
+  next_kind : (n : ℕ) (k : Kind) → kind_code k ≡ n + 1 → IsSoundHeader tech library b → SoundUpTo n → (IsSoundKind tech library cap b k ⊎ ((id : ℕ) × IsFirstFault tech library cap b k id)) → SoundUpTo (suc n) ⊎ Least
   next_kind n k code header sound (inr first) = inr (
     k,
     first.0,
@@ -136,10 +137,10 @@ module _ (library : List Master) (cap : ℕ) (b : Block) where
     upto : SoundUpTo (suc n)
     upto j within = elim (cases_lt (kind_code j) (suc n)) [
       | inl before ↦ sound j (omega (arith, before))
-      | inr from ↦ let same : k ≡ j = same_kind k j (omega (arith, within, from, code)) in subst (IsSoundKind library cap b) same this
+      | inr from ↦ let same : k ≡ j = same_kind k j (omega (arith, within, from, code)) in subst (IsSoundKind tech library cap b) same this
     ]
 
-  kinds_judged : IsSoundHeader library b → (n : ℕ) → n ≤ 12 → Surely (SoundUpTo n ⊎ Least)
+  kinds_judged : IsSoundHeader tech library b → (n : ℕ) → n ≤ 12 → Surely (SoundUpTo n ⊎ Least)
   kinds_judged header zero within = surely (inl (λ k upto. let from = codes_from k in absurd (omega (arith, from, upto))))
   kinds_judged header (suc n) within = surely_then (kinds_judged header n (omega (arith, within))) (elim [
     | inr least ↦ surely (inr least)
@@ -152,7 +153,7 @@ abbrev LeastUnsound : ℕ → Saved → Type 0
 LeastUnsound cap s = (k : Option Kind) × (id : ℕ) × IsLeastUnsound cap s k id
 
 module _ (cap : ℕ) (s : Saved) (within : cap ≤ 16777215) (not : ¬ (IsSoundDatabase (database_of cap s))) where
-  of_kinds : IsDesign s.tech s.library → IsSoundHeader s.library s.tables → (SoundUpTo s.library cap s.tables 12 ⊎ Least s.library cap s.tables) → LeastUnsound cap s
+  of_kinds : IsDesign s.tech s.library → IsSoundHeader s.tech s.library s.tables → (SoundUpTo s.tech s.library cap s.tables 12 ⊎ Least s.tech s.library cap s.tables) → LeastUnsound cap s
   of_kinds design header (inr least) = (Some least.0, least.1, (design, least.2))
   of_kinds design header (inl sound) = absurd (not (record {
     tech = design.tech;
@@ -161,12 +162,12 @@ module _ (cap : ℕ) (s : Saved) (within : cap ≤ 16777215) (not : ¬ (IsSoundD
     capped = within;
   }))
 
-  of_header : IsDesign s.tech s.library → (IsSoundHeader s.library s.tables ⊎ (¬ (IsSoundHeader s.library s.tables))) → Surely (LeastUnsound cap s)
-  of_header design (inl header) = surely_then (kinds_judged s.library cap s.tables header 12 (omega arith)) (λ judged. surely (of_kinds design header judged))
+  of_header : IsDesign s.tech s.library → (IsSoundHeader s.tech s.library s.tables ⊎ (¬ (IsSoundHeader s.tech s.library s.tables))) → Surely (LeastUnsound cap s)
+  of_header design (inl header) = surely_then (kinds_judged s.tech s.library cap s.tables header 12 (omega arith)) (λ judged. surely (of_kinds design header judged))
   of_header design (inr fault) = surely (None, 0, (refl, λ x. fault x.header))
 
   of_design : (IsDesign s.tech s.library ⊎ (¬ (IsDesign s.tech s.library))) → Surely (LeastUnsound cap s)
-  of_design (inl design) = surely_then (surely_either (IsSoundHeader s.library s.tables)) (of_header design)
+  of_design (inl design) = surely_then (surely_either (IsSoundHeader s.tech s.library s.tables)) (of_header design)
   of_design (inr fault) = surely (None, 0, (refl, λ x. fault x.design))
 
   -- what isn't sound has a least place

@@ -304,7 +304,7 @@ block_direction direction.Feedthru h = (refl, tt)
 
 -- a step of 0
 no_step : (f : RowForm) (z : ℤ) → IsCoordinate z → may_step f (pos 0) ≡ true → z ≡ pos 0 → IsDistance (may_step f) z
-no_step f z within may zero = (ap (may_step f) zero ∙ may, (coordinate_is z within).1)
+no_step f z within may none = (ap (may_step f) none ∙ may, (coordinate_is z within).1)
 
 -- the sites of a row
 sites_lawful : (f : RowForm) (nx ny : ℕ) (sx sy : ℤ) → IsSiteCount nx → IsSiteCount ny → IsCoordinate sx → IsCoordinate sy → IsRepeated f nx ny sx sy → IsSites ((((f, nx), ny), sx), sy)

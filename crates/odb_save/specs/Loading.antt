@@ -20,13 +20,13 @@ use Rattle.odb_save.specs.Spelled.{database_of}
 -- the technology and the library that were read are lawful, and the header of the block is sound with them
 pub record IsSavedHeader (s : Saved) : Type 0 where
   pub design : IsDesign s.tech s.library
-  pub header : IsSoundHeader s.library s.tables
+  pub header : IsSoundHeader s.tech s.library s.tables
 
 -- The least place that isn't sound. The technology, the library and the header come first, of no kind and with identifier 0; then the
 -- kinds in the order of their codes, in each the table, with identifier 0, before its records by their identifiers.
 abbrev pub IsLeastUnsound : ℕ → Saved → Option Kind → ℕ → Type 0
 IsLeastUnsound cap s None id = (id ≡ 0) × (¬ (IsSavedHeader s))
-IsLeastUnsound cap s (Some k) id = IsDesign s.tech s.library × IsLeastInKind s.library cap s.tables k id
+IsLeastUnsound cap s (Some k) id = IsDesign s.tech s.library × IsLeastInKind s.tech s.library cap s.tables k id
 
 -- what was read is no sound database with this cap, and this is the least place
 pub record IsUnsoundAt (cap : ℕ) (s : Saved) (kind : Option Kind) (id : ℕ) : Type 0 where

@@ -5,8 +5,8 @@ ghost use Rattle.script_words.specs.Words.{words_of};
 
 use crate::command_words::Command;
 use crate::edit_lines::{
-    destroy, join, make_special, new_bterm, new_inst, new_net, new_row, part, place, rename, set_dir,
-    set_use, swap,
+    destroy, join, make_special, new_bterm, new_inst, new_net, new_row, part, place, rename,
+    set_dir, set_use, swap,
 };
 use crate::fault::LineFault;
 use crate::master_line::master;

@@ -228,8 +228,7 @@ module _ (tech : Technology) (library : List Master) (cap : ℕ) (d : Block) (in
   pub keep_names : IsSound tech library cap d → (can : CanSwap library d inst master) → KeepNames library d inst master can
   keep_names sound can k part at =
       let came = came_from can.old can.new (inst_terms d inst) (sound.masters master can.new can.is_new) can.same (fitted_old sound can.old (has_master library d inst can.old can.is_old)) k part
-          (ap (λ ids. slice_get ids k) (sym (terms_now can)) ∙ at) in
-      (
+      (ap (λ ids. slice_get ids k) (sym (terms_now can)) ∙ at) in (
         came.place,
         came.at,
         found_terminals_are_named can.old came.match.name came.place came.match.in_old ∙ sym (found_terminals_are_named can.new came.match.name k came.match.in_new),
