@@ -1,5 +1,5 @@
--- A whole saved database is read back, and has no second spelling.
-use Rattle.std.proofs.Common.{◌≡◌, true, ℕ, List, [], ◌++◌, ◌+◌, length, Result, Ok, Err, codes, refl, sym, ap, subst, ◌∙◌, append_assoc, append-nil, arith, inl, inr, eqb}
+-- A whole saved database is read back, and has no second spelling; the place of a fault is within the bytes.
+use Rattle.std.proofs.Common.{◌≡◌, ◌≤◌, true, ℕ, List, [], ◌++◌, ◌+◌, length, Result, Ok, Err, codes, refl, sym, ap, subst, ◌∙◌, append_assoc, append-nil, arith, inl, inr, eqb}
 use Rattle.std.specs.Str.{bytes_eq}
 use Rattle.std.proofs.lemmas.Bool.{cases_Bool, eq-eqb, eqb-true}
 use Rattle.std.proofs.lemmas.List.{drop_all}
@@ -12,7 +12,8 @@ use Rattle.odb_fields.proofs.Inputs.{bind_ok, bytes_back, bytes_only, ok_is}
 use Rattle.block_store.specs.Block.{Block}
 use Rattle.saved_reader.specs.declared.saved.Saved.{Saved}
 use Rattle.saved_reader.specs.Bytes.{table_bytes}
-use Rattle.saved_reader.specs.Fault.{Fault}
+use Rattle.saved_reader.specs.Fault as fault
+use Rattle.saved_reader.specs.Fault.{Fault, fault_place}
 use Rattle.saved_reader.specs.Grouping.{group_format, prop_format, region_format}
 use Rattle.saved_reader.specs.Header.{header_format}
 use Rattle.saved_reader.specs.Library.{library_format}
@@ -21,6 +22,7 @@ use Rattle.saved_reader.specs.Physical.{blockage_format, pin_format, row_format,
 use Rattle.saved_reader.specs.Reading.{plain}
 use Rattle.saved_reader.specs.Saved.{block_format, built_format, known_version, mark_at, marked, others_format, saved_at, saved_in, saved_of, version_at, whole}
 use Rattle.saved_reader.specs.Technology.{tech_format}
+use Rattle.saved_reader.proofs.FaultPlaces.{CutIn, EndsIn, IsIn, bind_in, bytes_stay}
 use Rattle.saved_reader.proofs.Codec.{IsCodec, and_codec, record_codec, same_codec}
 use Rattle.saved_reader.proofs.Records.{block_is, library_is, tech_is}
 use Rattle.saved_reader.proofs.Single.{u32_codec}
@@ -57,11 +59,19 @@ marked_ok (Ok p) x new e = elim (cases_Bool (bytes_eq p.0 (codes "ODBS"))) [
 ]
 marked_ok (Err cut) x new e = absurd cc
 
+marked_stays : (n : ℕ) (r : Result (List ℕ × Cursor) Cut) → CutIn n r → EndsIn n (marked r)
+marked_stays n (Ok p) is = elim (cases_Bool (bytes_eq p.0 (codes "ODBS"))) [
+  | inl t ↦ rw t is
+  | inr f ↦ rw f (omega arith)
+]
+marked_stays n (Err cut) is = omega arith
+
 mark_codec : IsCodec mark_at (λ u. codes "ODBS") (λ u. Unit {0})
 unfolding mark_at
 mark_codec = record {
   back = λ u fits input rest e. let a = bytes_back (codes "ODBS") input rest e in (ap marked a.0, a.1);
   only = λ old new x are e fits. (bytes_only 4 old new (codes "ODBS") (marked_ok (bytes_at 4 old) x new e)).0;
+  stays = λ n old is. marked_stays n (bytes_at 4 old) (bytes_stay 4 n old is);
 }
 
 known_ok : (p : ℕ × Cursor) (x : Unit {0}) (new : Cursor) → known_version p ≡ Ok (x, new) → p ≡ (1, new)
@@ -72,6 +82,12 @@ known_ok p x new e = elim (cases_Bool (eqb p.0 1)) [
   | inr f ↦ absurd (let h = rw f at e in cc)
 ]
 
+known_stays : (n : ℕ) (p : ℕ × Cursor) → IsIn n p.1 → EndsIn n (known_version p)
+known_stays n p is = elim (cases_Bool (eqb p.0 1)) [
+  | inl t ↦ rw t is
+  | inr f ↦ rw f (omega arith)
+]
+
 version_codec : IsCodec version_at (λ u. u32_bytes 1) (λ u. Unit {0})
 unfolding version_at
 version_codec = record {
@@ -79,6 +95,7 @@ version_codec = record {
   only = λ old new x are e fits.
       let u = bind_ok (plain u32_at old) known_version (x, new) e in
       u32_codec.only old new 1 are (u.1 ∙ ap (λ (p : ℕ × Cursor). Ok p) (known_ok u.0 x new u.2)) (omega arith);
+  stays = λ n old is. bind_in n (plain u32_at old) known_version (u32_codec.stays n old is) (known_stays n);
 }
 
 -- ---- all of it
@@ -133,3 +150,21 @@ read_has_bytes cap bytes s are e fits =
     let kept : u.0.1.bytes ≡ bytes = ap (λ (c : Cursor). c.bytes) taken.moved in
     let ended : unread u.0.1 ≡ [] = drop_all u.0.1.place u.0.1.bytes (omega (arith, w.1, ap length kept)) in
     taken.parts ∙ ap (λ l. saved_bytes s ++ l) ended ∙ append-nil (saved_bytes s)
+
+whole_stays : (n : ℕ) (read : Result (Saved × Cursor) Fault) (f : Fault) → EndsIn n read → (read >>= whole n) ≡ Err f → fault_place f ≤ n
+whole_stays n (Ok p) f is e = elim (cases_Bool (eqb p.1.place n)) [
+  | inl t ↦ absurd (let h = rw t at e in cc)
+  | inr behind ↦
+      let trailing : fault.Trailing p.1.place ≡ f = (let h = rw behind at e in cc) in
+      let place : p.1.place ≡ fault_place f = ap fault_place trailing in
+      omega (arith, place, is.1)
+]
+whole_stays n (Err g) f is e =
+    let place : fault_place g ≡ fault_place f = (let same : g ≡ f = cc in ap fault_place same) in
+    omega (arith, place, is)
+
+-- the place of a fault is within the bytes
+pub fault_within : (cap : ℕ) (bytes : List ℕ) (f : Fault) → saved_in cap bytes ≡ Err f → fault_place f ≤ length bytes
+unfolding saved_in
+fault_within cap bytes f e =
+    whole_stays (length bytes) (saved_at cap (start bytes)) f ((saved_codec cap).stays (length bytes) (start bytes) (refl, omega arith)) e

@@ -1,10 +1,11 @@
-ghost use Rattle.std.specs.Prelude.{◌≡◌, ◌≤◌, List, ℕ, Ok, length};
+ghost use Rattle.std.specs.Prelude.{◌≡◌, ◌≤◌, List, ℕ, Err, Ok, length};
 ghost use Rattle.block_store.specs.Database.{Database, IsSoundDatabase, empty_database};
 ghost use Rattle.odb_fields.specs.Bytes.{AreBytes};
 ghost use Rattle.odb_save.specs.Examples.{empty_saved, one_gate, one_gate_saved, one_net, one_net_saved};
 ghost use Rattle.odb_save.specs.Loading.{HasAnAnswer, HasOneAnswer};
 ghost use Rattle.odb_save.specs.Save.{save_bytes};
 ghost use Rattle.odb_save.specs.Spelled.{database_of, spelled};
+ghost use Rattle.saved_reader.specs.Fault.{Fault, fault_place};
 ghost use Rattle.saved_reader.specs.Saved.{saved_in};
 ghost use Rattle.saved_reader.specs.declared.saved.Saved.{Saved};
 
@@ -31,6 +32,11 @@ pub fn saved_bytes_are_read()
 /// Bytes that are read as a sound database are its saved bytes: no database has a second spelling. It does nothing.
 pub fn read_bytes_are_saved()
     ensures { (cap : ℕ) (bytes : List ℕ) (s : Saved) → AreBytes bytes → saved_in cap bytes ≡ Ok s → IsSoundDatabase (database_of cap s) → bytes ≡ save_bytes (database_of cap s) }
+{}
+
+/// The place of a fault is at most the number of the bytes. It does nothing.
+pub fn fault_places_are_within()
+    ensures { (cap : ℕ) (bytes : List ℕ) (f : Fault) → saved_in cap bytes ≡ Err f → fault_place f ≤ length bytes }
 {}
 
 /// Loading the same bytes with the same cap comes to one answer. It does nothing.

@@ -15,8 +15,8 @@
 //! spell, `tech_parts` enters the technology and the masters, each where it is lawful, and `block_tables` judges whether
 //! the tables are sound with them. That the bytes of a sound database are read as that database, and that no other bytes
 //! are, are laws of this crate ([`saved_bytes_are_read`], [`read_bytes_are_saved`]). Bytes that no database has are
-//! refused by a [`LoadFault`], and there is one answer to the same bytes and cap ([`loading_is_determined`],
-//! [`loading_has_an_answer`]).
+//! refused by a [`LoadFault`], whose place is within the bytes ([`fault_places_are_within`]), and there is one answer to
+//! the same bytes and cap ([`loading_is_determined`], [`loading_has_an_answer`]).
 //!
 //! A save takes time for the slots and the bytes, and memory for the bytes alone. A load takes, on average, time for
 //! the bytes and for the terminals of the library's masters, and for each master the square of the number of its
@@ -35,8 +35,8 @@ mod technology;
 
 pub use database::save;
 pub use laws::{
-    cap_is_unsaved, examples, loading_has_an_answer, loading_is_determined, read_bytes_are_saved,
-    saved_bytes_are_read,
+    cap_is_unsaved, examples, fault_places_are_within, loading_has_an_answer,
+    loading_is_determined, read_bytes_are_saved, saved_bytes_are_read,
 };
 pub use load_fault::LoadFault;
 pub use loading::load;

@@ -6,20 +6,24 @@ use Rattle.odb_fields.specs.Reading.{Cursor, ReadsBack, ReadsOnly, Takes, ◌>>=
 use Rattle.odb_fields.proofs.Inputs.{AreBytes-taken, Takes-append, bind_ok, made_back, ok_is, then_back, with_fault_back, with_fault_ok}
 use Rattle.saved_reader.specs.Fault as fault
 use Rattle.saved_reader.specs.Reading.{Reading, both, given, judged, made, plain, ◌by◌, ◌then◌}
+use Rattle.saved_reader.proofs.FaultPlaces.{StaysIn, by_stays, judged_stays, made_stays, plain_stays, then_stays}
 
--- Of the values that fit: where its bytes stand, the value is read; and a value that was read has just these bytes.
+-- Of the values that fit: where its bytes stand, the value is read; and a value that was read has just these bytes. Reading stays
+-- within the input.
 pub record IsCodec {A : Type 0} (reads : Reading A) (writes : A → List ℕ) (Fits : A → Type 0) : Type 0 where
   pub back : (x : A) → Fits x → ReadsBack reads (writes x) x
   pub only : (old new : Cursor) (x : A) → AreBytes old.bytes → reads old ≡ Ok (x, new) → Fits x → Takes old (writes x) new
+  pub stays : StaysIn reads
 
 -- ---- single fields
 
 -- a field of which only the end of the input is at fault
 pub plain_codec : {A : Type 0} (read : Cursor → Result (A × Cursor) Cut) (writes : A → List ℕ) (Fits : A → Type 0)
-    → ((x : A) → Fits x → ReadsBack read (writes x) x) → ReadsOnly read writes Fits → IsCodec (plain read) writes Fits
-plain_codec read writes Fits back only = record {
+    → ((x : A) → Fits x → ReadsBack read (writes x) x) → ReadsOnly read writes Fits → StaysIn (plain read) → IsCodec (plain read) writes Fits
+plain_codec read writes Fits back only stays = record {
   back = λ x fits. with_fault_back (λ cut. fault.Cut cut.at) read (writes x) x (back x fits);
   only = λ old new x are e fits. (only old new x are (with_fault_ok (λ cut. fault.Cut cut.at) (read old) (x, new) e)).0;
+  stays = stays;
 }
 
 -- a value that was given is the one that there was
@@ -44,6 +48,7 @@ judged_codec {A} {B} meaning spelling reads writes Fields Fits means spelled fit
       let P : A × Cursor → Type 0 = λ p. reads old ≡ Ok p in
       let read : reads old ≡ Ok (spelling y, new) = u.1 ∙ ap (λ (x : A). Ok (x, u.0.1)) is ∙ ap (λ (c : Cursor). Ok (spelling y, c)) g.1 in
       codec.only old new (spelling y) are read (fitting y fits);
+  stays = judged_stays meaning reads codec.stays;
 }
 
 -- ---- several readings
@@ -64,6 +69,7 @@ made_codec {A} {B} value parts reads writes Parts Fits again apart fitting codec
       codec.only old u.0.1 (parts (value u.0.0)) are (subst Q (sym (apart u.0.0 f)) u.1) (fitting (value u.0.0) f)
       in
       subst P (ok_is (value u.0.0, u.0.1) (y, new) u.2) whole fits;
+  stays = made_stays value reads codec.stays;
 }
 
 -- a record of fields is as good as the fields
@@ -90,6 +96,7 @@ then_codec {A} {B} first next wa wb Fa Fb a b = record {
       Takes-append old u.0.1 v.0.1 (wa u.0.0) (wb v.0.0) one two
       in
       subst P (ok_is ((u.0.0, v.0.0), v.0.1) (p, new) v.2) whole fits;
+  stays = then_stays first next a.stays (λ x. (b x).stays);
 }
 
 -- one reading and another
@@ -102,8 +109,9 @@ pub by_codec : {A B : Type 0} (first : Reading A) (next : A → Reading B) (wa :
     → IsCodec first wa Fa → ((y : B) → Fb y → ReadsBack (next (told y)) (wb y) y)
     → ((x : A) (old new : Cursor) (y : B) → next x old ≡ Ok (y, new) → x ≡ told y)
     → ((x : A) (old new : Cursor) (y : B) → AreBytes old.bytes → next x old ≡ Ok (y, new) → Fb y → Takes old (wb y) new)
+    → ((x : A) → StaysIn (next x))
     → IsCodec (first by next) (λ y. wa (told y) ++ wb y) (λ y. Fa (told y) × Fb y)
-by_codec {A} {B} first next wa wb Fa Fb told a back tells only = record {
+by_codec {A} {B} first next wa wb Fa Fb told a back tells only stays = record {
   back = λ y fits. then_back first next (wa (told y)) (wb y) (told y) y (a.back (told y) fits.0) (back y fits.1);
   only = λ old new y are e fits.
       let u = bind_ok (first old) (λ u. next u.0 u.1) (y, new) e in
@@ -112,6 +120,7 @@ by_codec {A} {B} first next wa wb Fa Fb told a back tells only = record {
       let one = a.only old u.0.1 (told y) are (subst Q is u.1) fits.0 in
       let two = only u.0.0 u.0.1 new y (AreBytes-taken old u.0.1 (wa (told y)) one are) u.2 fits.1 in
       Takes-append old u.0.1 new (wa (told y)) (wb y) one two;
+  stays = by_stays first next a.stays stays;
 }
 
 -- the same bytes in other words
@@ -119,4 +128,5 @@ pub same_codec : {A : Type 0} (reads : Reading A) (writes writes' : A → List �
 same_codec reads writes writes' Fits same codec = record {
   back = λ x fits. let P : List ℕ → Type 0 = λ bytes. ReadsBack reads bytes x in subst P (same x fits) (codec.back x fits);
   only = λ old new x are e fits. let P : List ℕ → Type 0 = λ bytes. Takes old bytes new in subst P (same x fits) (codec.only old new x are e fits);
+  stays = codec.stays;
 }

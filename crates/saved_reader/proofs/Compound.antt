@@ -22,6 +22,7 @@ use Rattle.saved_reader.specs.Lawful.{IsDistance, IsFreeCount, IsId, IsOption, I
 use Rattle.saved_reader.proofs.Codec.{IsCodec, and_codec, judged_codec, record_codec, same_codec, then_codec}
 use Rattle.saved_reader.proofs.Counted.{counted_codec, option_codec}
 use Rattle.saved_reader.proofs.Sets.{orients_set}
+use Rattle.saved_reader.proofs.FaultPlaces.{EndsIn, IsIn, bind_in}
 use Rattle.saved_reader.proofs.Single.{IsSet, coded_codec, distance_codec, id_codec, such_codec, u32_codec, u8_codec}
 
 -- ---- placements
@@ -85,6 +86,12 @@ within_ok k cap p q e = elim (cases_Bool (ltb cap p.0)) [
   | inr fits ↦ (let h = rw fits at e in cc)
 ]
 
+within_stays : (k : Kind) (cap n : ℕ) (p : ℕ × Cursor) → IsIn n p.1 → EndsIn n (within_cap k cap p)
+within_stays k cap n p is = elim (cases_Bool (ltb cap p.0)) [
+  | inl over ↦ rw over (omega arith)
+  | inr fits ↦ rw fits is
+]
+
 within_codec : (k : Kind) (cap : ℕ) → IsCodec (λ i. plain u32_at i >>= within_cap k cap) u32_bytes (IsWithin cap)
 within_codec k cap = record {
   back = λ n fits input rest e.
@@ -94,6 +101,7 @@ within_codec k cap = record {
   only = λ old new n are e fits.
       let u = bind_ok (plain u32_at old) (within_cap k cap) (n, new) e in
       u32_codec.only old new n are (u.1 ∙ ap (λ (p : ℕ × Cursor). Ok p) (within_ok k cap u.0 (n, new) u.2)) fits.1;
+  stays = λ n old is. bind_in n (plain u32_at old) (within_cap k cap) (u32_codec.stays n old is) (within_stays k cap n);
 }
 
 slot_count_codec : (k : Kind) (cap : ℕ) → IsCodec (slot_count_at k cap) u32_bytes (IsSlotCount k cap)

@@ -13,6 +13,7 @@ use Rattle.saved_reader.specs.Parts.{filled_list_at, list_at, no_list_at, option
 use Rattle.saved_reader.specs.Reading.{Reading, made, many_at, plain, with_first, ◌by◌}
 use Rattle.saved_reader.specs.Lawful.{IsFilledList, IsList, IsNumber, IsOption}
 use Rattle.saved_reader.proofs.Codec.{IsCodec, by_codec, same_codec}
+use Rattle.saved_reader.proofs.FaultPlaces.{StaysIn, made_stays, many_stays}
 use Rattle.saved_reader.proofs.Single.{flag_codec, flag_number, number_codec, such_passes}
 
 -- nothing is taken
@@ -58,7 +59,7 @@ module _ {A : Type 0} (each : Reading A) (writes : A → List ℕ) (Fits : A →
       → IsCodec (count by λ n. many_at n each) (list_bytes writes) (λ xs. IsCount (length xs) × AllByRecursion Fits xs)
   unfolding list_bytes
   counted_codec count IsCount counts =
-      by_codec count (λ n. many_at n each) u32_bytes (flat_map writes) IsCount (AllByRecursion Fits) length counts many_back (many_count each) many_only
+      by_codec count (λ n. many_at n each) u32_bytes (flat_map writes) IsCount (AllByRecursion Fits) length counts many_back (many_count each) many_only (many_stays each codec.stays)
 
 -- the bytes behind the flag
 abbrev pub stated_bytes : {A : Type 0} → (A → List ℕ) → Option A → List ℕ
@@ -94,6 +95,10 @@ module _ {A : Type 0} (each : Reading A) (writes : A → List ℕ) (Fits : A →
       let whole : P (Some u.0.0, u.0.1) = λ f. codec.only old u.0.1 u.0.0 are u.1 f in
       subst P (ok_is (Some u.0.0, u.0.1) (o, new) u.2) whole fits
 
+  stated_stays : (b : Bool) → StaysIn (stated_at each b)
+  stated_stays false n old is = is
+  stated_stays true n old is = made_stays Some each codec.stays n old is
+
   option_is : (o : Option A) → u8_bytes (flag_number (is_some o)) ++ stated_bytes writes o ≡ option_bytes writes o
   unfolding option_bytes u8_bytes
   option_is None = refl
@@ -101,7 +106,7 @@ module _ {A : Type 0} (each : Reading A) (writes : A → List ℕ) (Fits : A →
 
   pub option_codec : IsCodec (option_at each) (option_bytes writes) (λ o. Unit {0} × IsOption Fits o)
   unfolding option_at
-  option_codec = same_codec (option_at each) (λ o. u8_bytes (flag_number (is_some o)) ++ stated_bytes writes o) (option_bytes writes) (λ o. Unit {0} × IsOption Fits o) (λ o fits. option_is o) (by_codec flag_at (stated_at each) (λ b. u8_bytes (flag_number b)) (stated_bytes writes) (λ b. Unit {0}) (IsOption Fits) is_some flag_codec stated_back stated_told stated_only)
+  option_codec = same_codec (option_at each) (λ o. u8_bytes (flag_number (is_some o)) ++ stated_bytes writes o) (option_bytes writes) (λ o. Unit {0} × IsOption Fits o) (λ o fits. option_is o) (by_codec flag_at (stated_at each) (λ b. u8_bytes (flag_number b)) (stated_bytes writes) (λ b. Unit {0}) (IsOption Fits) is_some flag_codec stated_back stated_told stated_only stated_stays)
 
 -- no items, whatever the number
 abbrev none_of : {A : Type 0} → ℕ → List A
@@ -126,6 +131,7 @@ nothing_codec {A} count IsCount writes counts zeros none = record {
       let P : List A × Cursor → Type 0 = λ t. Takes old (u32_bytes (length t.0) ++ flat_map writes t.0) t.1 in
       let whole : P ([], u.0.1) = subst R (sym (append-nil (u32_bytes 0))) taken in
       subst P (ok_is ([], u.0.1) (xs, new) u.2) whole;
+  stays = made_stays none_of count counts.stays;
 }
 
 below_none : (n : ℕ) → is_between 0 0 n ≡ true → n ≡ 0

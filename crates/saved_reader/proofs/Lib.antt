@@ -2,6 +2,7 @@ pub mod Appending
 pub mod Codec
 pub mod Compound
 pub mod Counted
+pub mod FaultPlaces
 pub mod Formats
 pub mod Gathered
 pub mod Records

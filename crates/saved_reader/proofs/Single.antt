@@ -13,18 +13,19 @@ use Rattle.saved_reader.specs.Fault as fault
 use Rattle.saved_reader.specs.Fields.{coded, coded_at, distance_at, flag_at, flag_of, id_at, is_between, is_name, name_at, number_at, small_at, such, text_at, word_at}
 use Rattle.saved_reader.specs.Reading.{Reading, given, judged, plain}
 use Rattle.saved_reader.specs.Lawful.{IsDistance, IsId, IsNameText, IsNumber, IsSmall, IsText, IsWord}
+use Rattle.saved_reader.proofs.FaultPlaces.{bytes_stay, i32_stays, plain_stays, u32_stays, u8_stays}
 use Rattle.saved_reader.proofs.Codec.{IsCodec, by_codec, given_ok, judged_codec, plain_codec}
 
 -- ---- fields as they stand
 
 pub u8_codec : IsCodec (plain u8_at) u8_bytes (λ n. n < 2 ^ 8)
-u8_codec = plain_codec u8_at u8_bytes (λ n. n < 2 ^ 8) u8_back u8_only
+u8_codec = plain_codec u8_at u8_bytes (λ n. n < 2 ^ 8) u8_back u8_only u8_stays
 
 pub u32_codec : IsCodec (plain u32_at) u32_bytes (λ n. n < 2 ^ 32)
-u32_codec = plain_codec u32_at u32_bytes (λ n. n < 2 ^ 32) u32_back u32_only
+u32_codec = plain_codec u32_at u32_bytes (λ n. n < 2 ^ 32) u32_back u32_only u32_stays
 
 i32_codec : IsCodec (plain i32_at) i32_bytes (FitsSigned w32)
-i32_codec = plain_codec i32_at i32_bytes (FitsSigned w32) i32_back i32_only
+i32_codec = plain_codec i32_at i32_bytes (FitsSigned w32) i32_back i32_only i32_stays
 
 -- ---- fields under a rule
 
@@ -126,6 +127,7 @@ text_codec least most =
     (λ bytes fits. with_fault_back (λ cut. fault.Cut cut.at) (bytes_at (length bytes)) bytes bytes (bytes_back bytes))
     (λ count old new bytes e. sym (bytes_only count old new bytes (with_fault_ok (λ cut. fault.Cut cut.at) (bytes_at count old) (bytes, new) e)).1)
     (λ count old new bytes are e fits. (bytes_only count old new bytes (with_fault_ok (λ cut. fault.Cut cut.at) (bytes_at count old) (bytes, new) e)).0)
+    (λ count. plain_stays (bytes_at count) (bytes_stay count))
 
 pub name_codec : IsCodec name_at text_bytes IsNameText
 unfolding name_at

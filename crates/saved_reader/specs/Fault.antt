@@ -10,3 +10,12 @@ pub data Fault : Type 0 where
   BadField : ℕ → Fault
   OverCap : Kind → Fault
   Trailing : ℕ → Fault
+
+-- the place that a fault names, where it names one, and else 0
+abbrev pub fault_place : Fault → ℕ
+fault_place NotSaved = 0
+fault_place (Version got) = 0
+fault_place (Cut at) = at
+fault_place (BadField at) = at
+fault_place (OverCap kind) = 0
+fault_place (Trailing at) = at
