@@ -3,6 +3,6 @@ pub mod Ids
 pub mod Placing
 pub mod Planned
 pub mod Questions
-pub mod Rows
+pub mod RowPlans
 pub mod Sound
 pub mod Terminals

@@ -46,7 +46,7 @@ use Rattle.edits.specs.Planning.{IsPlanned}
 use Rattle.edits.proofs.Destroying.{destroyed}
 use Rattle.edits.proofs.Ids.{count_next_ids, next_ids_are_next}
 use Rattle.edits.proofs.Placing.{lawful_placement}
-use Rattle.edits.proofs.Rows.{passed_coordinate, passed_repeat}
+use Rattle.edits.proofs.RowPlans.{passed_coordinate, passed_repeat}
 use Rattle.edits.proofs.Terminals.{same_names}
 use Rattle.edits.proofs.Questions.{alike, enough, faultless, held, joined_net, parted_net, plain_net, same_ok, tested, there, unfound, went_on}
 
