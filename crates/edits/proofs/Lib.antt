@@ -1,5 +1,9 @@
+pub mod Asking
 pub mod Destroying
+pub mod EditQuestions
+pub mod FirstRefusal
 pub mod Ids
+pub mod LeastRefusals
 pub mod Placing
 pub mod Planned
 pub mod Questions

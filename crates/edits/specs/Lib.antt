@@ -1,3 +1,4 @@
 pub mod Checks
 pub mod Plan
 pub mod Planning
+pub mod Refusals

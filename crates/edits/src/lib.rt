@@ -12,6 +12,7 @@
 
 pub mod checks;
 pub mod destroy;
+pub mod laws;
 pub mod make;
 pub mod planning;
 pub mod rows;

@@ -1,9 +1,9 @@
 -- A reading stays within the input, and so does the place of its fault.
-use Rattle.std.proofs.Common.{◌≡◌, ◌≤◌, ◌+◌, ℕ, zero, suc, List, ◌∷◌, length, drop, take, ltb, Option, Some, None, Result, Ok, Err, refl, ap, arith, inl, inr}
+use Rattle.std.proofs.Common.{◌≡◌, ◌≤◌, ℕ, zero, suc, List, ◌∷◌, length, ltb, Option, Some, None, Result, Ok, Err, arith, inl, inr}
 use Rattle.std.proofs.lemmas.Bool.{cases_Bool, ltb-false}
 use Rattle.std.proofs.lemmas.List.{length-drop}
 use Rattle.odb_fields.specs.declared.get.Cut.{Cut}
-use Rattle.odb_fields.specs.Reading.{Cursor, bytes_at, i32_at, past, u32_at, u8_at, unread, value_at, with_fault, ◌>>=◌}
+use Rattle.odb_fields.specs.Reading.{Cursor, bytes_at, i32_at, u32_at, u8_at, unread, value_at, with_fault, ◌>>=◌}
 use Rattle.saved_reader.specs.Fault as fault
 use Rattle.saved_reader.specs.Fault.{Fault, fault_place}
 use Rattle.saved_reader.specs.Reading.{Reading, given, judged, made, many_at, plain, with_first, ◌by◌, ◌then◌}

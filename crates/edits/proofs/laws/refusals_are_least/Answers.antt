@@ -1,0 +1,8 @@
+use Rattle.edits.proofs.LeastRefusals.{plans_unrefused, refuses_first}
+use Rattle.edits.proofs.laws.refusals_are_least.Goals as goal
+
+pub returns-clause-refused : goal.returns-clause-refused
+returns-clause-refused c = refuses_first
+
+pub returns-clause-planned : goal.returns-clause-planned
+returns-clause-planned c = plans_unrefused

@@ -1,0 +1,13 @@
+ghost use Rattle.std.specs.Prelude.{List, ℕ};
+ghost use Rattle.edit_words.specs.declared.edit.Edit.{Edit as AnEdit};
+ghost use Rattle.library.specs.declared.master.Master.{Master};
+ghost use Rattle.tech.specs.Technology.{Technology};
+ghost use Rattle.block_store.specs.Block.{Block};
+ghost use Rattle.edits.specs.Refusals.{PlansUnrefused, RefusesFirst};
+
+/// Of the refusals that apply to an edit its plan has the one of the least number and, within a number, of the least
+/// place in the line; and it has steps only where none applies. So for every block, sound or not. It does nothing.
+pub fn refusals_are_least()
+    ensures refused { (tech : Technology) (library : List Master) (cap : ℕ) (b : Block) (e : AnEdit) → RefusesFirst tech library cap b e }
+    ensures planned { (tech : Technology) (library : List Master) (cap : ℕ) (b : Block) (e : AnEdit) → PlansUnrefused tech library cap b e }
+{}
