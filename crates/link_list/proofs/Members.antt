@@ -1,11 +1,10 @@
 -- Lists of identifiers, cut at a member.
-use Rattle.std.proofs.Common.{◌≡◌, ◌≢◌, ◌||◌, true, false, eqb, List, [], ◌∷◌, ◌++◌, ℕ, Option, Some, None, IsTrue, refl, sym, ap, ◌∙◌, inl, inr, append-nil}
+use Rattle.std.proofs.Common.{◌≡◌, ◌≢◌, true, false, eqb, List, [], ◌∷◌, ◌++◌, ℕ, Option, Some, None, IsTrue, refl, sym, ap, ◌∙◌, inl, inr, append-nil}
 use Rattle.std.specs.Option.{IfSome}
-use Rattle.std.proofs.lemmas.Bool.{cases_Bool, eqb-true, eq-eqb, false≢true, or_parts}
+use Rattle.std.proofs.lemmas.Bool.{cases_Bool, or_parts}
 use Rattle.link_list.specs.Ids.{before, before_from}
-use Rattle.odb_base.specs.Ids.{AreApart, IsDistinct, after, first, holds, placed, placed_before, without}
-use Rattle.odb_base.proofs.Ids.{holds-append, member_differs}
-use Rattle.odb_base.proofs.Splits.{Parts, Split, after-split, distinct_of, distinct_out, distinct_in, eqb-refl, parts_of, placed_before-split, split_at, without-split}
+use Rattle.odb_base.specs.Ids.{first, holds, placed, placed_before}
+use Rattle.odb_base.proofs.Splits.{eqb-refl, placed_before-split, split_at}
 use Rattle.link_list.specs.Standing.{last_or, left_of, number}
 
 before_from-split : (last : Option ℕ) (front back : List ℕ) (id : ℕ) → holds front id ≡ false → number (before_from last (front ++ id ∷ back) id) ≡ last_or (number last) front

@@ -1,4 +1,5 @@
 pub mod Decimals
+pub mod Distinct
 pub mod Finding
 pub mod Ids
 pub mod Names

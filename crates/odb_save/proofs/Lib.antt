@@ -1,6 +1,5 @@
 pub mod Answerable
 pub mod Designs
-pub mod Distinct
 pub mod EntryLemmas
 pub mod Fitting
 pub mod LeastPlaces

@@ -25,6 +25,7 @@ use Rattle.odb_base.specs.declared.geometry.Rect.{Rect}
 use Rattle.odb_base.specs.declared.geometry.Shape.{Shape}
 use Rattle.odb_base.proofs.Names.{name_is_short}
 use Rattle.odb_base.proofs.Splits.{eqb-refl}
+use Rattle.odb_base.proofs.Distinct.{AreUpTo, length-distinct}
 use Rattle.block_records.specs.Header.{new_header}
 use Rattle.block_records.specs.declared.header.Header.{Header}
 use Rattle.block_records.specs.declared.iterm.ITermRec.{ITermRec}
@@ -75,7 +76,6 @@ use Rattle.saved_reader.specs.PartFormats.{shape_format}
 use Rattle.saved_reader.specs.Physical.{blockage_format, pin_format, row_format, track_format, wire_format}
 use Rattle.saved_reader.specs.Saved.{block_format, block_parts, built_format, others_format}
 use Rattle.saved_reader.specs.Technology.{layer_format, site_format, tech_format, via_format, via_name_field}
-use Rattle.odb_save.proofs.Distinct.{AreUpTo, length-distinct}
 use Rattle.odb_save.proofs.Fitting.{few_terminals, named_within, once_true}
 use Rattle.odb_save.proofs.Whole.{IsSavedFields}
 
