@@ -1,5 +1,5 @@
 -- What the questions of a plan say, shape by shape: each goes on where it holds, and else it refuses with what applies.
-use Rattle.std.proofs.Common.{◌≡◌, ◌≢◌, Bool, true, false, List, [], ◌∷◌, ℕ, Option, None, Some, Result, Ok, Err, cond, eqb, is_none, is_some, not, refl, sym, ap, subst, ◌∙◌, ◌⊎◌, inl, inr}
+use Rattle.std.proofs.Common.{◌≡◌, ◌≢◌, Bool, true, false, List, ◌∷◌, ℕ, Option, None, Some, Result, Ok, Err, cond, eqb, is_none, is_some, not, refl, sym, ap, subst, ◌∙◌, ◌⊎◌, inl, inr}
 use Rattle.std.specs.Prelude.{◌==◌, Contains, MatchOption, nat_lt, unwrap_or}
 use Rattle.std.proofs.lemmas.Bool.{eqb-false, eqb-true, false≢true, ltb-true, not-false}
 use Rattle.odb_base.specs.Kind.{kind_code}

@@ -4,6 +4,7 @@ pub mod EditQuestions
 pub mod FirstRefusal
 pub mod Ids
 pub mod LeastRefusals
+pub mod OneRefusal
 pub mod Placing
 pub mod Planned
 pub mod Questions

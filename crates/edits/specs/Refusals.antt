@@ -192,3 +192,7 @@ RefusesFirst tech library cap b e = (why : Refusal) → plan tech library cap b 
 -- an edit that has steps is one to which no refusal applies
 abbrev pub PlansUnrefused : Technology → List Master → ℕ → Block → Edit → Type 0
 PlansUnrefused tech library cap b e = (steps : List Step) → plan tech library cap b e ≡ Ok steps → NoneApplies tech library cap b e
+
+-- the refusal that is the first to apply to an edit is the one that its plan has
+abbrev pub FirstIsPlanned : Technology → List Master → ℕ → Block → Edit → Type 0
+FirstIsPlanned tech library cap b e = (why : Refusal) → IsFirst tech library cap b e why → plan tech library cap b e ≡ Err why
