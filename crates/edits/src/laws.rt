@@ -1,5 +1,5 @@
 ghost use Rattle.std.specs.Prelude.{List, ℕ};
-ghost use Rattle.edit_words.specs.declared.edit.Edit.{Edit as AnEdit};
+ghost use Rattle.edit_words.specs.declared.edit.Edit.{Edit};
 ghost use Rattle.library.specs.declared.master.Master.{Master};
 ghost use Rattle.tech.specs.Technology.{Technology};
 ghost use Rattle.block_store.specs.Block.{Block};
@@ -10,7 +10,7 @@ ghost use Rattle.edits.specs.Refusals.{FirstIsPlanned, PlansUnrefused, RefusesFi
 /// place in the line; and it has steps only where none applies. So for every block, sound or not. For a sound one no
 /// other refusal has that number and that place. It does nothing.
 pub fn refusals_are_least()
-    ensures refused { (tech : Technology) (library : List Master) (cap : ℕ) (b : Block) (e : AnEdit) → RefusesFirst tech library cap b e }
-    ensures planned { (tech : Technology) (library : List Master) (cap : ℕ) (b : Block) (e : AnEdit) → PlansUnrefused tech library cap b e }
-    ensures exact { (tech : Technology) (library : List Master) (cap : ℕ) (b : Block) (e : AnEdit) → IsSound tech library cap b → FirstIsPlanned tech library cap b e }
+    ensures refused { (tech : Technology) (library : List Master) (cap : ℕ) (b : Block) (e : Edit) → RefusesFirst tech library cap b e }
+    ensures planned { (tech : Technology) (library : List Master) (cap : ℕ) (b : Block) (e : Edit) → PlansUnrefused tech library cap b e }
+    ensures exact { (tech : Technology) (library : List Master) (cap : ℕ) (b : Block) (e : Edit) → IsSound tech library cap b → FirstIsPlanned tech library cap b e }
 {}
