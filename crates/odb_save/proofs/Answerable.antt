@@ -16,8 +16,8 @@ use Rattle.block_tables.proofs.Beyond.{at_zero, past_slots}
 use Rattle.block_tables.proofs.KindOrder.{code_of_item, codes_within, same_kind}
 use Rattle.block_tables.proofs.Parts.{sound_by_parts}
 use Rattle.saved_reader.specs.declared.saved.Saved.{Saved}
-use Rattle.saved_reader.specs.Fault as read
-use Rattle.saved_reader.specs.Fault.{Fault}
+use Rattle.saved_fields.specs.Fault as read
+use Rattle.saved_fields.specs.Fault.{Fault}
 use Rattle.saved_reader.specs.Saved.{saved_in}
 use Rattle.odb_save.specs.declared.load_fault.LoadFault.TheVariants as load
 use Rattle.odb_save.specs.Design.{IsDesign}

@@ -27,7 +27,7 @@ use Rattle.block_store.specs.declared.entry.RowEntry.{RowEntry}
 use Rattle.block_store.specs.Block.{Block}
 use Rattle.block_store.specs.Lists.{list_in}
 use Rattle.block_store.proofs.Joined.{shown_by}
-use Rattle.saved_reader.specs.Bytes.{option_bytes}
+use Rattle.saved_fields.specs.Bytes.{option_bytes}
 use Rattle.saved_reader.specs.Entries.{bterm_entry, group_entry, inst_entry, net_entry, region_entry, row_entry}
 use Rattle.saved_reader.specs.Grouping.{group_format, prop_format, region_format}
 use Rattle.saved_reader.specs.Objects.{bterm_format, inst_format, iterm_format, net_format}

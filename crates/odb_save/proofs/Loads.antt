@@ -6,12 +6,12 @@ use Rattle.block_store.specs.Database.{Database, IsSoundDatabase}
 use Rattle.block_tables.specs.Causes.{IsRefusal}
 use Rattle.block_tables.specs.declared.fault.TablesFault.{TablesFault}
 use Rattle.block_tables.specs.declared.fault.TablesFault.TheVariants as tables
-use Rattle.saved_reader.specs.declared.fault.ReadFault.{ReadFault}
-use Rattle.saved_reader.specs.declared.fault.ReadFault.TheVariants as told
+use Rattle.saved_fields.specs.declared.fault.ReadFault.{ReadFault}
+use Rattle.saved_fields.specs.declared.fault.ReadFault.TheVariants as told
 use Rattle.saved_reader.specs.declared.saved.Saved.{Saved}
-use Rattle.saved_reader.specs.Fault as read
-use Rattle.saved_reader.specs.Fault.{Fault}
-use Rattle.saved_reader.specs.Reading.{Fails}
+use Rattle.saved_fields.specs.Fault as read
+use Rattle.saved_fields.specs.Fault.{Fault}
+use Rattle.saved_fields.specs.Reading.{Fails}
 use Rattle.saved_reader.specs.Saved.{saved_in}
 use Rattle.odb_save.specs.declared.load_fault.LoadFault.{LoadFault}
 use Rattle.odb_save.specs.declared.load_fault.LoadFault.TheVariants as load

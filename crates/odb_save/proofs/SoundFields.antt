@@ -58,9 +58,9 @@ use Rattle.library.specs.declared.mterm.MTerm.{MTerm}
 use Rattle.slot_pool.specs.Table.{Table, is_vacant, once_if, record_at, times}
 use Rattle.slot_pool.proofs.Counts.{live_within, vacant_within}
 use Rattle.block_store.specs.Rows.{IsRepeated, IsSiteCount}
-use Rattle.saved_reader.specs.Sites.{may_step}
-use Rattle.saved_reader.specs.Fields as field
-use Rattle.saved_reader.specs.Parts.{is_built, may_have}
+use Rattle.saved_fields.specs.Sites.{may_step}
+use Rattle.saved_fields.specs.Fields as field
+use Rattle.saved_fields.specs.Parts.{is_built, may_have}
 use Rattle.odb_save.specs.Spelled.{spelled}
 use Rattle.slot_pool.proofs.Counted.{fewer_free}
 use Rattle.block_store.specs.PlainTables.{AreTables}
@@ -69,10 +69,10 @@ use Rattle.block_tables.proofs.Parts.{sound_by_parts}
 use Rattle.saved_reader.specs.Fits.{IsShort}
 use Rattle.saved_reader.specs.Grouping.{group_format, prop_format, region_format}
 use Rattle.saved_reader.specs.Header.{header_format}
-use Rattle.saved_reader.specs.Lawful.{IsDistance, IsId, IsList, IsNameText, IsNumber, IsOption, IsPlacementFields, IsRectFields, IsSites, IsSmall, IsTableOf, IsTerm, IsText}
+use Rattle.saved_fields.specs.Lawful.{IsDistance, IsId, IsList, IsNameText, IsNumber, IsOption, IsPlacementFields, IsRectFields, IsSites, IsSmall, IsTableOf, IsTerm, IsText}
 use Rattle.saved_reader.specs.Library.{extent_field, extent_of, library_format, master_format, mterm_format}
 use Rattle.saved_reader.specs.Objects.{block_direction_field, bterm_format, inst_format, is_of_block, iterm_format, net_format}
-use Rattle.saved_reader.specs.PartFormats.{shape_format}
+use Rattle.saved_fields.specs.PartFormats.{shape_format}
 use Rattle.saved_reader.specs.Physical.{blockage_format, pin_format, row_format, track_format, wire_format}
 use Rattle.saved_reader.specs.Saved.{block_format, block_parts, built_format, others_format}
 use Rattle.saved_reader.specs.Technology.{layer_format, site_format, tech_format, via_format, via_name_field}

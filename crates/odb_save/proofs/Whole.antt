@@ -11,21 +11,21 @@ use Rattle.odb_fields.specs.Reading.{Cursor, bytes_at, u32_at, unread, ◌>>=◌
 use Rattle.odb_fields.proofs.Inputs.{bind_ok, bytes_back, bytes_only, ok_is}
 use Rattle.block_store.specs.Block.{Block}
 use Rattle.saved_reader.specs.declared.saved.Saved.{Saved}
-use Rattle.saved_reader.specs.Bytes.{table_bytes}
-use Rattle.saved_reader.specs.Fault as fault
-use Rattle.saved_reader.specs.Fault.{Fault, fault_place}
+use Rattle.saved_fields.specs.Bytes.{table_bytes}
+use Rattle.saved_fields.specs.Fault as fault
+use Rattle.saved_fields.specs.Fault.{Fault, fault_place}
 use Rattle.saved_reader.specs.Grouping.{group_format, prop_format, region_format}
 use Rattle.saved_reader.specs.Header.{header_format}
 use Rattle.saved_reader.specs.Library.{library_format}
 use Rattle.saved_reader.specs.Objects.{bterm_format, inst_format, iterm_format, net_format}
 use Rattle.saved_reader.specs.Physical.{blockage_format, pin_format, row_format, track_format, wire_format}
-use Rattle.saved_reader.specs.Reading.{plain}
+use Rattle.saved_fields.specs.Reading.{plain}
 use Rattle.saved_reader.specs.Saved.{block_format, built_format, known_version, mark_at, marked, others_format, saved_at, saved_in, saved_of, version_at, whole}
 use Rattle.saved_reader.specs.Technology.{tech_format}
-use Rattle.saved_reader.proofs.FaultPlaces.{CutIn, EndsIn, IsIn, bind_in, bytes_stay}
-use Rattle.saved_reader.proofs.Codec.{IsCodec, and_codec, record_codec, same_codec}
+use Rattle.saved_fields.proofs.FaultPlaces.{CutIn, EndsIn, IsIn, bind_in, bytes_stay}
+use Rattle.saved_fields.proofs.Codec.{IsCodec, and_codec, record_codec, same_codec}
 use Rattle.saved_reader.proofs.Records.{block_is, library_is, tech_is}
-use Rattle.saved_reader.proofs.Single.{u32_codec}
+use Rattle.saved_fields.proofs.Single.{u32_codec}
 use Rattle.odb_save.specs.Kinds.{table_in}
 use Rattle.odb_save.specs.Save.{block_bytes}
 

@@ -9,7 +9,7 @@ use Rattle.slot_pool.specs.Table.{Table, record_at}
 use Rattle.block_store.specs.Block.{Block, free_in, slots_in}
 use Rattle.block_store.proofs.Slots.{record_at_place}
 use Rattle.odb_save.specs.Kinds.{slot_in, slots_behind, table_in}
-use Rattle.saved_reader.specs.Bytes.{list_bytes, option_bytes, table_bytes}
+use Rattle.saved_fields.specs.Bytes.{list_bytes, option_bytes, table_bytes}
 use Rattle.saved_reader.specs.Grouping.{group_format, prop_format, region_format}
 use Rattle.saved_reader.specs.Objects.{bterm_format, inst_format, iterm_format, net_format}
 use Rattle.saved_reader.specs.Physical.{blockage_format, pin_format, row_format, track_format, wire_format}

@@ -2,10 +2,10 @@
 use Rattle.std.specs.Prelude.{None}
 use Rattle.block_tables.specs.declared.fault.TablesFault.{TablesFault}
 use Rattle.block_tables.specs.declared.fault.TablesFault.TheVariants as tables
-use Rattle.saved_reader.specs.declared.fault.ReadFault.{ReadFault}
-use Rattle.saved_reader.specs.declared.fault.ReadFault.TheVariants as read
-use Rattle.saved_reader.specs.Fault as fault
-use Rattle.saved_reader.specs.Fault.{Fault}
+use Rattle.saved_fields.specs.declared.fault.ReadFault.{ReadFault}
+use Rattle.saved_fields.specs.declared.fault.ReadFault.TheVariants as read
+use Rattle.saved_fields.specs.Fault as fault
+use Rattle.saved_fields.specs.Fault.{Fault}
 use Rattle.tech_parts.specs.declared.fault.PartFault.{PartFault}
 use Rattle.tech_parts.specs.declared.fault.PartFault.TheVariants as part
 use Rattle.odb_save.specs.declared.load_fault.LoadFault.{LoadFault}

@@ -7,7 +7,7 @@ use Rattle.block_store.specs.Database.{Database, IsSoundDatabase}
 use Rattle.block_tables.specs.Places.{IsLeastInKind}
 use Rattle.block_tables.specs.Rules.{IsSoundHeader}
 use Rattle.saved_reader.specs.declared.saved.Saved.{Saved}
-use Rattle.saved_reader.specs.Fault as read
+use Rattle.saved_fields.specs.Fault as read
 use Rattle.saved_reader.specs.Saved.{saved_in}
 use Rattle.odb_save.specs.declared.load_fault.LoadFault.{LoadFault}
 use Rattle.odb_save.specs.declared.load_fault.LoadFault.TheVariants as load

@@ -5,7 +5,7 @@ ghost use Rattle.odb_save.specs.Examples.{empty_saved, one_gate, one_gate_saved,
 ghost use Rattle.odb_save.specs.Loading.{HasAnAnswer, HasOneAnswer};
 ghost use Rattle.odb_save.specs.Save.{save_bytes};
 ghost use Rattle.odb_save.specs.Spelled.{database_of, spelled};
-ghost use Rattle.saved_reader.specs.Fault.{Fault, fault_place};
+ghost use Rattle.saved_fields.specs.Fault.{Fault, fault_place};
 ghost use Rattle.saved_reader.specs.Saved.{saved_in};
 ghost use Rattle.saved_reader.specs.declared.saved.Saved.{Saved};
 

@@ -3,7 +3,7 @@ ghost use Rattle.odb_fields.specs.Fields.{u32_bytes};
 ghost use Rattle.odb_fields.specs.Putting.{KeepsVector, bytes_in};
 ghost use Rattle.block_store.specs.Block.{free_in};
 ghost use Rattle.lawful_parts.specs.Lawful.{AreAll};
-ghost use Rattle.saved_reader.specs.Bytes.{list_bytes};
+ghost use Rattle.saved_fields.specs.Bytes.{list_bytes};
 ghost use Rattle.saved_reader.specs.Fits.{IsShort};
 
 use block_store::Block;
@@ -14,7 +14,7 @@ use saved_reader::saves::Saves;
 use std::alloc::AllocError;
 
 // Things with names, in the order of their identifiers.
-#[tactic(auto, unfolding(saved_reader::specs::Bytes::list_bytes))]
+#[tactic(auto, unfolding(saved_fields::specs::Bytes::list_bytes))]
 pub fn put_named<T: Named + Saves + Drop>(
     put: &mut Put<'_>,
     things: &NamedList<T>,
@@ -43,7 +43,7 @@ fn thing_at<T: Named + Drop>(things: &NamedList<T>, place: u32) -> &T
 }
 
 // The free identifiers of a kind, top first.
-#[tactic(auto, unfolding(saved_reader::specs::Bytes::list_bytes))]
+#[tactic(auto, unfolding(saved_fields::specs::Bytes::list_bytes))]
 pub fn put_free(put: &mut Put<'_>, block: &Block, kind: Kind) -> Result<(), AllocError>
     requires { IsShort (free_in kind block.now.block) }
     ensures ok { OnOk result (bytes_in put.new ≡ bytes_in put.old ++ list_bytes u32_bytes (free_in kind block.now.block)) }

@@ -1,6 +1,6 @@
 ghost use Rattle.std.specs.Prelude.{◌≡◌, ◌++◌, IfSome, OnOk, option_copied};
 ghost use Rattle.odb_fields.specs.Putting.{KeepsVector, bytes_in};
-ghost use Rattle.saved_reader.specs.Bytes.{option_bytes};
+ghost use Rattle.saved_fields.specs.Bytes.{option_bytes};
 ghost use Rattle.odb_save.specs.Kinds.{slot_in};
 
 use block_store::{Block, Database};
@@ -40,7 +40,7 @@ pub fn put_slot(put: &mut Put<'_>, db: &Database, kind: Kind, id: u32) -> Result
     }
 }
 
-#[tactic(auto, unfolding(saved_reader::specs::Bytes::option_bytes))]
+#[tactic(auto, unfolding(saved_fields::specs::Bytes::option_bytes))]
 fn put_object<T: SavesObject>(
     put: &mut Put<'_>,
     block: &Block,

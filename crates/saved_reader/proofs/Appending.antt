@@ -2,7 +2,7 @@
 use Rattle.std.proofs.Common.{◌≡◌, List, [], ◌++◌, ℕ, sym, ap, ◌∙◌, length, append-nil, append_assoc}
 use Rattle.std.specs.List.{flat_map}
 use Rattle.odb_fields.specs.Fields.{u32_bytes}
-use Rattle.saved_reader.specs.Bytes.{list_bytes}
+use Rattle.saved_fields.specs.Bytes.{list_bytes}
 
 -- four fields were appended
 pub four_appended : (a b c d e w x y z : List ℕ) → b ≡ a ++ w → c ≡ b ++ x → d ≡ c ++ y → e ≡ d ++ z → e ≡ a ++ (w ++ x ++ y ++ z)

@@ -1,11 +1,11 @@
 -- Reading items one after another, as a loop does.
 use Rattle.std.proofs.Common.{◌≡◌, ℕ, suc, ◌-◌, ◌+◌, ◌≤◌, ◌<◌, List, [], ◌∷◌, ◌++◌, Result, Ok, Err, refl, sym, ap, ◌∙◌, append_assoc, append-nil, arith}
 use Rattle.odb_fields.specs.Reading.{Cursor, ◌>>=◌}
-use Rattle.saved_reader.specs.declared.fault.ReadFault.{ReadFault}
-use Rattle.saved_reader.specs.declared.fault.ReadFault.TheVariants as told
-use Rattle.saved_reader.specs.Fault as fault
-use Rattle.saved_reader.specs.Fault.{Fault}
-use Rattle.saved_reader.specs.Reading.{Fails, Reading, many_at, with_first}
+use Rattle.saved_fields.specs.declared.fault.ReadFault.{ReadFault}
+use Rattle.saved_fields.specs.declared.fault.ReadFault.TheVariants as told
+use Rattle.saved_fields.specs.Fault as fault
+use Rattle.saved_fields.specs.Fault.{Fault}
+use Rattle.saved_fields.specs.Reading.{Fails, Reading, many_at, with_first}
 
 -- a fault of a part is that of the whole
 pub fails_as : {A B : Type 0} (f : ReadFault) (part : Result A Fault) (whole : Result B Fault) → ((g : Fault) → part ≡ Err g → whole ≡ Err g) → Fails f part → Fails f whole

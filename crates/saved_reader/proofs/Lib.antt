@@ -1,14 +1,5 @@
 pub mod Appending
-pub mod Codec
-pub mod Compound
-pub mod Counted
-pub mod FaultPlaces
-pub mod Formats
 pub mod Gathered
 pub mod Records
-pub mod Sets
-pub mod Single
-pub mod SitesCodec
-pub mod Terms
 pub mod Units
 pub mod Within

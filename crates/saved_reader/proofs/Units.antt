@@ -5,15 +5,15 @@ use Rattle.std.proofs.lemmas.Bool.{and_parts, leb-true}
 use Rattle.odb_fields.specs.Reading.{Cursor, u32_at}
 use Rattle.odb_fields.proofs.Inputs.{bind_ok}
 use Rattle.tech.specs.Technology.{Technology}
-use Rattle.saved_reader.specs.Parts.{list_at}
-use Rattle.saved_reader.specs.declared.fault.ReadFault.{ReadFault}
+use Rattle.saved_fields.specs.Parts.{list_at}
+use Rattle.saved_fields.specs.declared.fault.ReadFault.{ReadFault}
 use Rattle.saved_reader.specs.declared.saved.Saved.{Saved}
-use Rattle.saved_reader.specs.Fields.{is_between, number_at}
+use Rattle.saved_fields.specs.Fields.{is_between, number_at}
 use Rattle.saved_reader.specs.Library.{library_format}
 use Rattle.saved_reader.specs.Technology.{layer_format, site_format, tech_format, technology_of, via_format}
-use Rattle.saved_reader.specs.Reading.{both, plain}
+use Rattle.saved_fields.specs.Reading.{both, plain}
 use Rattle.saved_reader.specs.Saved.{Answers, block_format, mark_at, saved_at, saved_in, saved_of, version_at, whole}
-use Rattle.saved_reader.proofs.Single.{such_passes}
+use Rattle.saved_fields.proofs.Single.{such_passes}
 use Rattle.saved_reader.proofs.Within.{and_ok, made_ok, whole_is}
 
 number_within : (least most : ℕ) (old new : Cursor) (n : ℕ) → number_at least most old ≡ Ok (n, new) → n ≤ most

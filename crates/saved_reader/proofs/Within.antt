@@ -8,21 +8,21 @@ use Rattle.odb_fields.specs.Reading.{Cursor, u32_at, ◌>>=◌}
 use Rattle.odb_fields.proofs.Inputs.{bind_ok, ok_is}
 use Rattle.block_store.specs.Block.{Block, slots_in}
 use Rattle.slot_pool.specs.Table.{Table}
-use Rattle.saved_reader.specs.declared.fault.ReadFault.{ReadFault}
+use Rattle.saved_fields.specs.declared.fault.ReadFault.{ReadFault}
 use Rattle.saved_reader.specs.declared.saved.Saved.{Saved}
-use Rattle.saved_reader.specs.Fields.{id_at, such}
+use Rattle.saved_fields.specs.Fields.{id_at, such}
 use Rattle.saved_reader.specs.Grouping.{group_format, prop_format, region_format}
 use Rattle.saved_reader.specs.Header.{header_format}
 use Rattle.saved_reader.specs.Library.{library_format}
 use Rattle.saved_reader.specs.Technology.{tech_format}
 use Rattle.saved_reader.specs.Objects.{bterm_format, inst_format, iterm_format, net_format}
-use Rattle.saved_reader.specs.Parts.{free_count_at, may_have, option_at, slot_count_at, table_at, table_of, within_cap}
+use Rattle.saved_fields.specs.Parts.{free_count_at, may_have, option_at, slot_count_at, table_at, table_of, within_cap}
 use Rattle.saved_reader.specs.Physical.{blockage_format, pin_format, row_format, track_format, wire_format}
-use Rattle.saved_reader.specs.Reading.{Reading, both, given, made, many_at, plain, ◌by◌}
+use Rattle.saved_fields.specs.Reading.{Reading, both, given, made, many_at, plain, ◌by◌}
 use Rattle.saved_reader.specs.Saved.{Answers, block_format, block_of, built_format, mark_at, others_format, saved_at, saved_in, saved_of, version_at, whole}
-use Rattle.saved_reader.proofs.Codec.{given_ok}
-use Rattle.saved_reader.proofs.Counted.{many_count}
-use Rattle.saved_reader.proofs.Single.{such_is}
+use Rattle.saved_fields.proofs.Codec.{given_ok}
+use Rattle.saved_fields.proofs.Counted.{many_count}
+use Rattle.saved_fields.proofs.Single.{such_is}
 
 -- ---- the parts of what was read
 

@@ -5,9 +5,9 @@ use Rattle.odb_base.specs.declared.geometry.Rect.{Rect}
 use Rattle.block_records.specs.declared.prop.PropRec.{PropRec}
 use Rattle.block_store.specs.declared.entry.GroupEntry.{GroupEntry}
 use Rattle.block_store.specs.declared.entry.RegionEntry.{RegionEntry}
-use Rattle.saved_reader.specs.FieldFormats.{id_field, name_field, no_text_field, region_type_field}
-use Rattle.saved_reader.specs.Format.{Format, fields, filled_list, ◌&◌}
-use Rattle.saved_reader.specs.PartFormats.{ids_field, no_ids_field, rect_field}
+use Rattle.saved_fields.specs.FieldFormats.{id_field, name_field, no_text_field, region_type_field}
+use Rattle.saved_fields.specs.Format.{Format, fields, filled_list, ◌&◌}
+use Rattle.saved_fields.specs.PartFormats.{ids_field, no_ids_field, rect_field}
 
 abbrev pub RegionFields : Type 0
 RegionFields = ((((List ℕ × RegionType) × List Rect) × List ℕ) × List ℕ) × List ℕ

@@ -7,9 +7,9 @@ use Rattle.odb_fields.specs.Fields.{text_bytes, u8_bytes}
 use Rattle.block_records.specs.declared.header.BlockVia.{BlockVia}
 use Rattle.block_records.specs.declared.header.Header.{Header}
 use Rattle.block_records.specs.declared.header.PropDef.{PropDef}
-use Rattle.saved_reader.specs.FieldFormats.{no_text_field, word_field}
-use Rattle.saved_reader.specs.Format.{Format, fields, ◌&◌}
-use Rattle.saved_reader.specs.PartFormats.{absent_field, no_list_field, rect_field}
+use Rattle.saved_fields.specs.FieldFormats.{no_text_field, word_field}
+use Rattle.saved_fields.specs.Format.{Format, fields, ◌&◌}
+use Rattle.saved_fields.specs.PartFormats.{absent_field, no_list_field, rect_field}
 
 -- the definition of a property
 unfoldable pub definition_bytes : PropDef → List ℕ

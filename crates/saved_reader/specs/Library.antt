@@ -5,9 +5,9 @@ use Rattle.odb_base.specs.declared.codes.usage.Usage.{Usage}
 use Rattle.odb_base.specs.declared.geometry.Shape.{Shape}
 use Rattle.library.specs.declared.master.Master.{Master}
 use Rattle.library.specs.declared.mterm.MTerm.{MTerm}
-use Rattle.saved_reader.specs.FieldFormats.{any_text_field, coordinate_field, direction_field, id_field, name_field, small_field, usage_field}
-use Rattle.saved_reader.specs.Format.{Format, fields, list, ◌&◌}
-use Rattle.saved_reader.specs.PartFormats.{shapes_field}
+use Rattle.saved_fields.specs.FieldFormats.{any_text_field, coordinate_field, direction_field, id_field, name_field, small_field, usage_field}
+use Rattle.saved_fields.specs.Format.{Format, fields, list, ◌&◌}
+use Rattle.saved_fields.specs.PartFormats.{shapes_field}
 
 -- the terminal of a master of these fields
 abbrev pub mterm_of : ((List ℕ × Direction) × Usage) × List Shape → MTerm

@@ -9,9 +9,9 @@ use Rattle.block_records.specs.declared.iterm.ITermRec.{ITermRec}
 use Rattle.block_store.specs.declared.entry.BTermEntry.{BTermEntry}
 use Rattle.block_store.specs.declared.entry.InstEntry.{InstEntry}
 use Rattle.block_store.specs.declared.entry.NetEntry.{NetEntry}
-use Rattle.saved_reader.specs.FieldFormats.{direction_field, flag_field, id_field, name_field, no_text_field, number_field, usage_field}
-use Rattle.saved_reader.specs.Format.{Format, fields, list, passing, ◌&◌}
-use Rattle.saved_reader.specs.PartFormats.{ids_field, no_ids_field, place_field, term_field}
+use Rattle.saved_fields.specs.FieldFormats.{direction_field, flag_field, id_field, name_field, no_text_field, number_field, usage_field}
+use Rattle.saved_fields.specs.Format.{Format, fields, list, passing, ◌&◌}
+use Rattle.saved_fields.specs.PartFormats.{ids_field, no_ids_field, place_field, term_field}
 
 -- ---- instances
 

@@ -11,12 +11,12 @@ use Rattle.block_records.specs.declared.pin.PinRec.{PinRec}
 use Rattle.block_records.specs.declared.track.TrackRec.{TrackRec}
 use Rattle.block_records.specs.declared.wire.WireRec.{WireRec}
 use Rattle.block_store.specs.declared.entry.RowEntry.{RowEntry}
-use Rattle.saved_reader.specs.FieldFormats.{coordinate_field, distance_field, flag_field, id_field, name_field, no_text_field, number_field, orient_field, track_axis_field, wire_status_field}
-use Rattle.saved_reader.specs.Fields.{is_from}
-use Rattle.saved_reader.specs.Format.{Format, fields, filled_list, list, ◌&◌}
-use Rattle.saved_reader.specs.Lawful.{IsSites}
-use Rattle.saved_reader.specs.PartFormats.{no_ids_field, place_field, rect_field, shapes_field}
-use Rattle.saved_reader.specs.Sites.{Sites, sites_at, sites_bytes, sites_of}
+use Rattle.saved_fields.specs.FieldFormats.{coordinate_field, distance_field, flag_field, id_field, name_field, no_text_field, number_field, orient_field, track_axis_field, wire_status_field}
+use Rattle.saved_fields.specs.Fields.{is_from}
+use Rattle.saved_fields.specs.Format.{Format, fields, filled_list, list, ◌&◌}
+use Rattle.saved_fields.specs.Lawful.{IsSites}
+use Rattle.saved_fields.specs.PartFormats.{no_ids_field, place_field, rect_field, shapes_field}
+use Rattle.saved_fields.specs.Sites.{Sites, sites_at, sites_bytes, sites_of}
 
 -- ---- pins
 

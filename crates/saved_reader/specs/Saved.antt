@@ -21,18 +21,18 @@ use Rattle.block_store.specs.Block.{Block}
 use Rattle.library.specs.declared.master.Master.{Master}
 use Rattle.slot_pool.specs.Table.{Table}
 use Rattle.tech.specs.Technology.{Technology}
-use Rattle.saved_reader.specs.declared.fault.ReadFault.{ReadFault}
+use Rattle.saved_fields.specs.declared.fault.ReadFault.{ReadFault}
 use Rattle.saved_reader.specs.declared.saved.Saved.{Saved}
-use Rattle.saved_reader.specs.Fault as fault
-use Rattle.saved_reader.specs.Fault.{Fault}
-use Rattle.saved_reader.specs.Format.{Format, fields, ◌&◌}
+use Rattle.saved_fields.specs.Fault as fault
+use Rattle.saved_fields.specs.Fault.{Fault}
+use Rattle.saved_fields.specs.Format.{Format, fields, ◌&◌}
 use Rattle.saved_reader.specs.Grouping.{group_format, prop_format, region_format}
 use Rattle.saved_reader.specs.Header.{header_format}
 use Rattle.saved_reader.specs.Library.{library_format}
 use Rattle.saved_reader.specs.Objects.{bterm_format, inst_format, iterm_format, net_format}
-use Rattle.saved_reader.specs.PartFormats.{table_field}
+use Rattle.saved_fields.specs.PartFormats.{table_field}
 use Rattle.saved_reader.specs.Physical.{blockage_format, pin_format, row_format, track_format, wire_format}
-use Rattle.saved_reader.specs.Reading.{Fails, Reading, both, made, plain}
+use Rattle.saved_fields.specs.Reading.{Fails, Reading, both, made, plain}
 use Rattle.saved_reader.specs.Technology.{tech_format}
 
 -- ---- the block

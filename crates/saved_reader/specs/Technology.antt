@@ -9,9 +9,9 @@ use Rattle.tech.specs.declared.layer.Layer.{Layer}
 use Rattle.tech.specs.declared.site.Site.{Site}
 use Rattle.tech.specs.declared.via.TechVia.{TechVia}
 use Rattle.lawful_parts.specs.Lawful.{orient_of}
-use Rattle.saved_reader.specs.FieldFormats.{coordinate_field, flag_field, layer_direction_field, layer_type_field, name_field, number_field, site_class_field, small_field}
-use Rattle.saved_reader.specs.Format.{Format, fields, list, passing, ◌&◌}
-use Rattle.saved_reader.specs.PartFormats.{shapes_field}
+use Rattle.saved_fields.specs.FieldFormats.{coordinate_field, flag_field, layer_direction_field, layer_type_field, name_field, number_field, site_class_field, small_field}
+use Rattle.saved_fields.specs.Format.{Format, fields, list, passing, ◌&◌}
+use Rattle.saved_fields.specs.PartFormats.{shapes_field}
 
 abbrev pub LayerFields : Type 0
 LayerFields = (((((List ℕ × LayerType) × LayerDirection) × ℤ) × ℤ) × ℤ) × ℤ

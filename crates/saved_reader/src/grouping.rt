@@ -1,14 +1,14 @@
 ghost use Rattle.saved_reader.specs.Entries.{group_entry, region_entry};
 ghost use Rattle.saved_reader.specs.Grouping.{group_format, prop_format, region_format};
 
-use crate::fault::ReadFault;
-use crate::fields::{get_coded, get_id, get_name, get_no_text};
 use crate::lists::{RECT_LIMIT, Spelled, get_filled_list, get_ids};
 use crate::saves::{SavesObject, put_list, put_members};
 use block_records::{GroupRec, PropRec, RegionRec};
 use block_store::{Block, GroupEntry, ListOf, RegionEntry};
 use odb_base::{Coded, GroupId, Kind, RegionId};
 use odb_fields::{Get, Put};
+use saved_fields::ReadFault;
+use saved_fields::fields::{get_coded, get_id, get_name, get_no_text};
 use std::alloc::{AllocError, Global};
 
 impl Spelled for RegionEntry {

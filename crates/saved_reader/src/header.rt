@@ -1,19 +1,19 @@
 ghost use Rattle.std.specs.Prelude.{◌≡◌, ◌++◌, OnOk};
 ghost use Rattle.odb_fields.specs.Putting.{KeepsVector, bytes_in};
 ghost use Rattle.block_records.specs.Header.{new_header};
-ghost use Rattle.saved_reader.specs.Bytes.{option_bytes, rect_bytes};
+ghost use Rattle.saved_fields.specs.Bytes.{option_bytes, rect_bytes};
 ghost use Rattle.saved_reader.specs.Fits.{IsShort};
 ghost use Rattle.saved_reader.specs.Header.{definition_bytes, header_format, via_bytes};
-ghost use Rattle.saved_reader.specs.Reading.{Reads};
+ghost use Rattle.saved_fields.specs.Reading.{Reads};
 
-use crate::fault::ReadFault;
-use crate::fields::{get_no_text, get_word};
 use crate::lists::get_no_list;
-use crate::parts::{get_absent, put_rect};
 use crate::saves::{Saves, put_list};
 use block_records::{BlockVia, Header, PropDef};
 use odb_base::{Coded, Rect};
 use odb_fields::{Get, Put};
+use saved_fields::ReadFault;
+use saved_fields::fields::{get_no_text, get_word};
+use saved_fields::parts::{get_absent, put_rect};
 use std::alloc::{AllocError, Global};
 
 /// Reads the header, which is that of a new block yet.
@@ -53,7 +53,7 @@ pub fn put_header(put: &mut Put<'_>, header: &Header) -> Result<(), AllocError>
     Ok(())
 }
 
-#[tactic(auto, unfolding(crate::specs::Bytes::option_bytes))]
+#[tactic(auto, unfolding(saved_fields::specs::Bytes::option_bytes))]
 fn put_die(put: &mut Put<'_>, die: &Option<Rect>) -> Result<(), AllocError>
     ensures ok { OnOk result (bytes_in put.new ≡ bytes_in put.old ++ option_bytes rect_bytes die.now) }
     ensures vector { KeepsVector put.old put.new }

@@ -1,17 +1,17 @@
-ghost use Rattle.saved_reader.specs.FieldFormats.{id_field};
-ghost use Rattle.saved_reader.specs.Fields.{id_at};
-ghost use Rattle.saved_reader.specs.Format.{Format};
-ghost use Rattle.saved_reader.specs.PartFormats.{optional, rect_field, shape_format};
-ghost use Rattle.saved_reader.specs.Parts.{filled_list_at, list_at, no_list_at, term_at};
-ghost use Rattle.saved_reader.specs.Reading.{Reads, ReadsAs, many_at};
+ghost use Rattle.saved_fields.specs.FieldFormats.{id_field};
+ghost use Rattle.saved_fields.specs.Fields.{id_at};
+ghost use Rattle.saved_fields.specs.Format.{Format};
+ghost use Rattle.saved_fields.specs.PartFormats.{optional, rect_field, shape_format};
+ghost use Rattle.saved_fields.specs.Parts.{filled_list_at, list_at, no_list_at, term_at};
+ghost use Rattle.saved_fields.specs.Reading.{Reads, ReadsAs, many_at};
 
-use crate::fault::ReadFault;
-use crate::fields::{get_flag, get_id, get_number};
-use crate::parts::{get_rect, get_term, put_rect};
 use crate::saves::Saves;
 use block_store::Ids;
 use odb_base::{LayerId, List, Rect, Shape};
 use odb_fields::{Get, Put};
+use saved_fields::ReadFault;
+use saved_fields::fields::{get_flag, get_id, get_number};
+use saved_fields::parts::{get_rect, get_term, put_rect};
 use std::alloc::{AllocError, Global};
 
 /// The greatest number of rectangles in one list, by themselves or on layers.
@@ -46,7 +46,7 @@ impl Spelled for Rect {
 impl Spelled for Shape {
     ghost format = { shape_format };
 
-    #[tactic(auto, unfolding(crate::specs::PartFormats::shape_format))]
+    #[tactic(auto, unfolding(saved_fields::specs::PartFormats::shape_format))]
     fn get(_alloc: Global, input: &mut Get<'_>) -> Result<Shape, ReadFault> {
         let layer = get_id(input)?;
         let rect = get_rect(input)?;
@@ -62,7 +62,7 @@ impl Saves for Shape {
 
     ghost fits = { λ _. Unit {0} };
 
-    #[tactic(auto, unfolding(crate::specs::PartFormats::shape_format))]
+    #[tactic(auto, unfolding(saved_fields::specs::PartFormats::shape_format))]
     fn put(&self, put: &mut Put<'_>) -> Result<(), AllocError> {
         put.put_u32(self.layer.0)?;
         put_rect(put, &self.rect)?;
@@ -83,7 +83,7 @@ impl Saves for Rect {
 impl<T: Spelled> Spelled for Option<T> {
     ghost format = { optional T.format };
 
-    #[tactic(auto, unfolding(crate::specs::Parts::option_at))]
+    #[tactic(auto, unfolding(saved_fields::specs::Parts::option_at))]
     fn get(alloc: Global, input: &mut Get<'_>) -> Result<Option<T>, ReadFault> {
         if get_flag(input)? {
             Ok(Some(T::get(alloc, input)?))
@@ -110,7 +110,7 @@ pub fn get_many<T: Spelled>(
 }
 
 /// Reads a list of at most so many items. Their number is judged before they are looked for.
-#[tactic(auto, unfolding(crate::specs::Parts::list_at))]
+#[tactic(auto, unfolding(saved_fields::specs::Parts::list_at))]
 pub fn get_list<T: Spelled>(
     alloc: Global,
     input: &mut Get<'_>,
@@ -124,7 +124,7 @@ pub fn get_list<T: Spelled>(
 }
 
 /// Reads a list of at least one item, and of at most so many.
-#[tactic(auto, unfolding(crate::specs::Parts::filled_list_at))]
+#[tactic(auto, unfolding(saved_fields::specs::Parts::filled_list_at))]
 pub fn get_filled_list<T: Spelled>(
     alloc: Global,
     input: &mut Get<'_>,
@@ -138,7 +138,7 @@ pub fn get_filled_list<T: Spelled>(
 }
 
 /// Reads a list of at most so many identifiers.
-#[tactic(auto, unfolding(crate::specs::Parts::list_at))]
+#[tactic(auto, unfolding(saved_fields::specs::Parts::list_at))]
 pub fn get_ids(alloc: Global, input: &mut Get<'_>, most: u32) -> Result<Ids, ReadFault>
     ensures { Reads result (list_at most id_at input.old) input.new }
 {
@@ -148,7 +148,7 @@ pub fn get_ids(alloc: Global, input: &mut Get<'_>, most: u32) -> Result<Ids, Rea
 }
 
 /// Reads a list that has no items yet.
-#[tactic(auto, unfolding(crate::specs::Parts::no_list_at))]
+#[tactic(auto, unfolding(saved_fields::specs::Parts::no_list_at))]
 pub fn get_no_list<T>(alloc: Global, input: &mut Get<'_>) -> Result<List<T>, ReadFault>
     ensures { Reads result (no_list_at input.old) input.new }
 {
@@ -157,7 +157,7 @@ pub fn get_no_list<T>(alloc: Global, input: &mut Get<'_>) -> Result<List<T>, Rea
 }
 
 /// Reads the terminals of a net.
-#[tactic(auto, unfolding(crate::specs::Parts::list_at))]
+#[tactic(auto, unfolding(saved_fields::specs::Parts::list_at))]
 pub fn get_terms(alloc: Global, input: &mut Get<'_>) -> Result<Ids, ReadFault>
     ensures { Reads result (list_at u32.MAX term_at input.old) input.new }
 {

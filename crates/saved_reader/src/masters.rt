@@ -2,15 +2,17 @@ ghost use Rattle.std.specs.Prelude.{◌≡◌, ◌++◌, OnOk};
 ghost use Rattle.odb_fields.specs.Putting.{KeepsVector, bytes_in};
 ghost use Rattle.saved_reader.specs.Fits.{FitsMaster, IsShort};
 ghost use Rattle.saved_reader.specs.Library.{extent_field, extent_of, library_format, master_format, mterm_format};
-ghost use Rattle.saved_reader.specs.Reading.{Reads, ReadsAs};
+ghost use Rattle.saved_fields.specs.Reading.{Reads, ReadsAs};
 
-use crate::fault::ReadFault;
-use crate::fields::{get_any_text, get_coded, get_coordinate, get_id, get_name, get_small};
 use crate::lists::{RECT_LIMIT, Spelled, get_list};
-use crate::saves::{Saves, put_distance, put_list};
+use crate::saves::{Saves, put_list};
 use library::{MASTER_LIMIT, MTerm, Master};
 use odb_base::{Coded, List};
 use odb_fields::{Get, Put};
+use saved_fields::ReadFault;
+use saved_fields::fields::{
+    get_any_text, get_coded, get_coordinate, get_id, get_name, get_small, put_distance,
+};
 use std::alloc::{AllocError, Global};
 
 // The greatest number of terminals of a master.

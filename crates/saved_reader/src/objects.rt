@@ -1,17 +1,19 @@
 ghost use Rattle.std.specs.Prelude.{◌≡◌};
 ghost use Rattle.saved_reader.specs.Entries.{bterm_entry, inst_entry, net_entry};
 ghost use Rattle.saved_reader.specs.Objects.{block_direction_field, bterm_format, inst_format, is_of_block, iterm_format, net_format};
-ghost use Rattle.saved_reader.specs.Reading.{Reads};
+ghost use Rattle.saved_fields.specs.Reading.{Reads};
 
-use crate::fault::ReadFault;
-use crate::fields::{get_coded, get_flag, get_id, get_name, get_no_text, get_number};
 use crate::lists::{Spelled, get_ids, get_list, get_terms};
-use crate::parts::{get_place, put_place};
-use crate::saves::{SavesObject, put_flag, put_list, put_members, put_terms};
+use crate::saves::{SavesObject, put_list, put_members, put_terms};
 use block_records::{BTermRec, ITermRec, InstRec, NetRec};
 use block_store::{BTermEntry, Block, InstEntry, ListOf, NetEntry};
 use odb_base::{BTermId, Coded, Direction, Kind, NetId};
 use odb_fields::{Get, Put};
+use saved_fields::ReadFault;
+use saved_fields::fields::{
+    get_coded, get_flag, get_id, get_name, get_no_text, get_number, put_flag,
+};
+use saved_fields::parts::{get_place, put_place};
 use std::alloc::{AllocError, Global};
 
 impl Spelled for InstEntry {

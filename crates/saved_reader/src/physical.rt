@@ -1,23 +1,23 @@
 ghost use Rattle.std.specs.Prelude.{◌≡◌, ◌++◌, OnOk};
 ghost use Rattle.odb_fields.specs.Putting.{KeepsVector, bytes_in};
 ghost use Rattle.saved_reader.specs.Entries.{row_entry};
-ghost use Rattle.saved_reader.specs.Fields.{distance_at, no_text_at};
+ghost use Rattle.saved_fields.specs.Fields.{distance_at, no_text_at};
 ghost use Rattle.saved_reader.specs.Physical.{blockage_format, pin_format, row_format, track_format, wire_format};
-ghost use Rattle.saved_reader.specs.Reading.{Reads, ReadsAs};
-ghost use Rattle.saved_reader.specs.Sites.{may_step, most_sites as most_sites_of, sites_at, sites_bytes, sites_of};
+ghost use Rattle.saved_fields.specs.Reading.{Reads, ReadsAs};
+ghost use Rattle.saved_fields.specs.Sites.{may_step, most_sites as most_sites_of, sites_at, sites_bytes, sites_of};
 
-use crate::fault::ReadFault;
-use crate::fields::{
-    get_coded, get_coordinate, get_flag, get_from, get_id, get_name, get_no_text, get_number,
-    get_text, in_limit,
-};
 use crate::lists::{RECT_LIMIT, Spelled, get_filled_list, get_ids, get_list};
-use crate::parts::{get_place, put_place};
-use crate::saves::{SavesObject, put_distance, put_flag, put_list, put_members};
+use crate::saves::{SavesObject, put_list, put_members};
 use block_records::{BlockageRec, PinRec, RowRec, TrackRec, WireRec};
 use block_store::{Block, ListOf, RowEntry};
 use odb_base::{Coded, Kind, RowForm, WireCode};
 use odb_fields::{Get, Put};
+use saved_fields::ReadFault;
+use saved_fields::fields::{
+    get_coded, get_coordinate, get_flag, get_from, get_id, get_name, get_no_text, get_number,
+    get_text, in_limit, put_distance, put_flag,
+};
+use saved_fields::parts::{get_place, put_place};
 use std::alloc::{AllocError, Global};
 
 // The greatest number of sites of a row along an axis.
@@ -118,7 +118,7 @@ struct Sites {
     sy: i32,
 }
 
-#[tactic(auto, unfolding(crate::specs::Sites::sites_at))]
+#[tactic(auto, unfolding(saved_fields::specs::Sites::sites_at))]
 fn get_sites(input: &mut Get<'_>) -> Result<Sites, ReadFault>
     ensures { ReadsAs (λ s. ((((s.form, s.nx), s.ny), s.sx), s.sy)) result (sites_at input.old) input.new }
 {
@@ -147,7 +147,7 @@ fn most_sites(form: RowForm) -> u32
 }
 
 // Reads a step from site to site of a row of this form.
-#[tactic(auto, unfolding(crate::specs::Fields::distance_at))]
+#[tactic(auto, unfolding(saved_fields::specs::Fields::distance_at))]
 fn get_step(input: &mut Get<'_>, form: RowForm) -> Result<i32, ReadFault>
     ensures { Reads result (distance_at (may_step form) input.old) input.new }
 {
@@ -169,7 +169,7 @@ fn is_step(form: RowForm, n: i32) -> bool
     }
 }
 
-#[tactic(auto, unfolding(crate::specs::Sites::sites_bytes))]
+#[tactic(auto, unfolding(saved_fields::specs::Sites::sites_bytes))]
 fn put_sites(put: &mut Put<'_>, row: &RowRec) -> Result<(), AllocError>
     ensures ok { OnOk result (bytes_in put.new ≡ bytes_in put.old ++ sites_bytes (sites_of row.now)) }
     ensures vector { KeepsVector put.old put.new }

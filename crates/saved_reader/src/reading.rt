@@ -1,10 +1,9 @@
 ghost use Rattle.std.specs.Prelude.{◌≤◌, IfOk};
 ghost use Rattle.odb_base.specs.declared.codes.kind.Kind.{Kind as AnyKind};
 ghost use Rattle.block_store.specs.Block.{slots_in};
-ghost use Rattle.saved_reader.specs.Reading.{Reads, ReadsAs};
+ghost use Rattle.saved_fields.specs.Reading.{Reads, ReadsAs};
 ghost use Rattle.saved_reader.specs.Saved.{Answers, block_format, built_format, mark_at, others_format, saved_at, saved_in, version_at};
 
-use crate::fault::ReadFault;
 use crate::header::get_header;
 use crate::masters::get_library;
 use crate::saved::Saved;
@@ -16,6 +15,7 @@ use block_store::{
 };
 use odb_base::Kind;
 use odb_fields::Get;
+use saved_fields::ReadFault;
 use std::alloc::Global;
 
 const MARK: &[u8] = b"ODBS";

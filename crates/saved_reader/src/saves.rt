@@ -1,15 +1,15 @@
 ghost use Rattle.std.specs.Prelude.{◌≡◌, ◌++◌, List, ℕ, OnOk, Some, length, slice_get};
-ghost use Rattle.odb_fields.specs.Fields.{i32_bytes, u32_bytes};
+ghost use Rattle.odb_fields.specs.Fields.{u32_bytes};
 ghost use Rattle.odb_fields.specs.Putting.{KeepsVector, bytes_in};
 ghost use Rattle.block_store.specs.Block.{Block as Objects};
 ghost use Rattle.block_store.specs.Lists.{list_at};
-ghost use Rattle.saved_reader.specs.Bytes.{flag_bytes, list_bytes, term_bytes};
+ghost use Rattle.saved_fields.specs.Bytes.{list_bytes, term_bytes};
 ghost use Rattle.saved_reader.specs.Fits.{IsShort};
 
-use crate::parts::put_term;
 use block_store::{Block, ListOf};
 use odb_base::NetId;
 use odb_fields::Put;
+use saved_fields::parts::put_term;
 use std::alloc::AllocError;
 
 /// What stands in the saved stream by itself: an item of a list, or a thing with a name.
@@ -42,23 +42,6 @@ pub trait SavesObject {
         ensures vector { KeepsVector put.old put.new };
 }
 
-/// Appends a flag.
-pub fn put_flag(put: &mut Put<'_>, flag: bool) -> Result<(), AllocError>
-    ensures ok { OnOk result (bytes_in put.new ≡ bytes_in put.old ++ flag_bytes flag) }
-    ensures vector { KeepsVector put.old put.new }
-{
-    put.put_u8(u8::from(flag))
-}
-
-/// Appends a signed number of four bytes. It is taken by reference, since what is read of a field behind a reference is
-/// converted first, and each caller would have to prove that away.
-pub fn put_distance(put: &mut Put<'_>, distance: &i32) -> Result<(), AllocError>
-    ensures ok { OnOk result (bytes_in put.new ≡ bytes_in put.old ++ i32_bytes distance.now) }
-    ensures vector { KeepsVector put.old put.new }
-{
-    put.put_i32(*distance)
-}
-
 impl Saves for u32 {
     ghost bytes_of = { u32_bytes };
 
@@ -70,7 +53,7 @@ impl Saves for u32 {
 }
 
 /// Appends a list: how many items it has, and each.
-#[tactic(auto, unfolding(crate::specs::Bytes::list_bytes))]
+#[tactic(auto, unfolding(saved_fields::specs::Bytes::list_bytes))]
 pub fn put_list<T: Saves>(put: &mut Put<'_>, items: &[T]) -> Result<(), AllocError>
     requires short { IsShort items.now }
     requires fits { (place : ℕ) (x : T) → slice_get items.now place ≡ Some x → T.fits x }
@@ -85,7 +68,7 @@ pub fn put_list<T: Saves>(put: &mut Put<'_>, items: &[T]) -> Result<(), AllocErr
 }
 
 /// Appends the members of a list of a block.
-#[tactic(auto, unfolding(crate::specs::Bytes::list_bytes))]
+#[tactic(auto, unfolding(saved_fields::specs::Bytes::list_bytes))]
 pub fn put_members(put: &mut Put<'_>, block: &Block, list: ListOf) -> Result<(), AllocError>
     requires { IsShort (list_at list block.now.block) }
     ensures ok { OnOk result (bytes_in put.new ≡ bytes_in put.old ++ list_bytes u32_bytes (list_at list block.now.block)) }
@@ -99,7 +82,7 @@ pub fn put_members(put: &mut Put<'_>, block: &Block, list: ListOf) -> Result<(),
 }
 
 /// Appends the terminals of a net.
-#[tactic(auto, unfolding(crate::specs::Bytes::list_bytes))]
+#[tactic(auto, unfolding(saved_fields::specs::Bytes::list_bytes))]
 pub fn put_terms(put: &mut Put<'_>, block: &Block, net: NetId) -> Result<(), AllocError>
     requires { IsShort (list_at (ListOf.Terms net) block.now.block) }
     ensures ok { OnOk result (bytes_in put.new ≡ bytes_in put.old ++ list_bytes term_bytes (list_at (ListOf.Terms net) block.now.block)) }

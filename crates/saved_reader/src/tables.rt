@@ -1,17 +1,17 @@
 ghost use Rattle.std.specs.Prelude.{◌≡◌};
-ghost use Rattle.saved_reader.specs.Parts.{free_count_at, is_built as may_have_objects, may_have, slot_count_at, table_at};
-ghost use Rattle.saved_reader.specs.Reading.{Reads};
+ghost use Rattle.saved_fields.specs.Parts.{free_count_at, is_built as may_have_objects, may_have, slot_count_at, table_at};
+ghost use Rattle.saved_fields.specs.Reading.{Reads};
 
-use crate::fault::ReadFault;
 use crate::lists::{Spelled, get_many};
 use block_store::PlainTable;
 use odb_base::Kind;
 use odb_fields::Get;
+use saved_fields::ReadFault;
 use std::alloc::Global;
 
 /// Reads the table of a kind: its slots, at most `cap`, each empty or with a record, and its free identifiers, top
 /// first. That of a kind whose objects are still to come has neither.
-#[tactic(auto, unfolding(crate::specs::Parts::table_at))]
+#[tactic(auto, unfolding(saved_fields::specs::Parts::table_at))]
 pub fn get_table<T: Spelled>(
     alloc: Global,
     input: &mut Get<'_>,
@@ -28,7 +28,7 @@ pub fn get_table<T: Spelled>(
 }
 
 // Reads how many slots a table has.
-#[tactic(auto, unfolding(crate::specs::Parts::slot_count_at))]
+#[tactic(auto, unfolding(saved_fields::specs::Parts::slot_count_at))]
 fn get_slot_count(input: &mut Get<'_>, kind: Kind, cap: u32) -> Result<u32, ReadFault>
     ensures { Reads result (slot_count_at kind cap input.old) input.new }
 {
@@ -45,7 +45,7 @@ fn get_slot_count(input: &mut Get<'_>, kind: Kind, cap: u32) -> Result<u32, Read
 }
 
 // Reads how many free identifiers a table has.
-#[tactic(auto, unfolding(crate::specs::Parts::free_count_at))]
+#[tactic(auto, unfolding(saved_fields::specs::Parts::free_count_at))]
 fn get_free_count(input: &mut Get<'_>, kind: Kind) -> Result<u32, ReadFault>
     ensures { Reads result (free_count_at kind input.old) input.new }
 {

@@ -1,17 +1,19 @@
 ghost use Rattle.std.specs.Prelude.{◌≡◌};
 ghost use Rattle.saved_reader.specs.Fits.{IsShort};
-ghost use Rattle.saved_reader.specs.Reading.{Reads};
+ghost use Rattle.saved_fields.specs.Reading.{Reads};
 ghost use Rattle.saved_reader.specs.Technology.{is_no_orient as no_orient, layer_format, site_format, tech_format, via_format, via_name_field};
 
-use crate::fault::ReadFault;
-use crate::fields::{get_coded, get_coordinate, get_flag, get_name, get_number, get_small};
 use crate::lists::{RECT_LIMIT, Spelled, get_list};
 use crate::saved::SavedTech;
-use crate::saves::{Saves, put_distance, put_flag, put_list};
+use crate::saves::{Saves, put_list};
 use bitflags::Flags;
 use lawful_parts::UNIT_LIMIT;
 use odb_base::{Coded, Name, Orient, Worded};
 use odb_fields::{Get, Put};
+use saved_fields::ReadFault;
+use saved_fields::fields::{
+    get_coded, get_coordinate, get_flag, get_name, get_number, get_small, put_distance, put_flag,
+};
 use std::alloc::{AllocError, Global};
 use tech::{LIST_LIMIT, Layer, Site, Symmetry, TechVia};
 

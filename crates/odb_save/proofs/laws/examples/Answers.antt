@@ -1,7 +1,7 @@
 -- Each example is computed.
 use Rattle.std.proofs.Common.{refl}
 use Rattle.odb_fields.specs.Fields.{i32_bytes, text_bytes, u8_bytes, u32_bytes}
-use Rattle.saved_reader.specs.Bytes.{list_bytes, option_bytes, place_bytes, table_bytes, term_bytes}
+use Rattle.saved_fields.specs.Bytes.{list_bytes, option_bytes, place_bytes, table_bytes, term_bytes}
 use Rattle.saved_reader.specs.Header.{header_format}
 use Rattle.saved_reader.specs.Library.{extent_field, library_format, master_format, mterm_format}
 use Rattle.saved_reader.specs.Objects.{block_direction_field, bterm_format, inst_format, iterm_format, net_format}

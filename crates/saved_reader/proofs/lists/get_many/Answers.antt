@@ -1,5 +1,5 @@
 use Rattle.std.proofs.lemmas.Result.{err_from_is_err_and}
-use Rattle.saved_reader.specs.Reading.{many_at}
+use Rattle.saved_fields.specs.Reading.{many_at}
 use Rattle.saved_reader.proofs.Gathered.{ends, goes_on, is_done}
 use Rattle.saved_reader.proofs.lists.get_many.Goals as goal
 

@@ -1,6 +1,6 @@
 -- The items so far, and those still to be read.
 use Rattle.std.proofs.Common.{◌≡◌, ◌-◌}
-use Rattle.saved_reader.specs.Reading.{many_at}
+use Rattle.saved_fields.specs.Reading.{many_at}
 use Rattle.saved_reader.proofs.Gathered.{with_front}
 use Rattle.saved_reader.proofs.lists.get_many.Given as goal
 

@@ -1,6 +1,6 @@
 use Rattle.std.proofs.lemmas.Result.{err_from_is_err_and}
-use Rattle.saved_reader.specs.Parts.{term_at}
-use Rattle.saved_reader.specs.Reading.{many_at}
+use Rattle.saved_fields.specs.Parts.{term_at}
+use Rattle.saved_fields.specs.Reading.{many_at}
 use Rattle.saved_reader.proofs.Gathered.{ends, goes_on, is_done}
 use Rattle.saved_reader.proofs.lists.get_term_numbers.Goals as goal
 

@@ -1,7 +1,7 @@
 -- The terminals so far, and those still to be read.
 use Rattle.std.proofs.Common.{◌≡◌, ◌-◌}
-use Rattle.saved_reader.specs.Parts.{term_at}
-use Rattle.saved_reader.specs.Reading.{many_at}
+use Rattle.saved_fields.specs.Parts.{term_at}
+use Rattle.saved_fields.specs.Reading.{many_at}
 use Rattle.saved_reader.proofs.Gathered.{with_front}
 use Rattle.saved_reader.proofs.lists.get_term_numbers.Given as goal
 

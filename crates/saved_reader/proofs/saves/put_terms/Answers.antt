@@ -1,7 +1,7 @@
 use Rattle.std.proofs.Common.{rules, ◌≡◌, []}
 use Rattle.block_store.specs.declared.list_of.ListOf.TheVariants as list
 use Rattle.block_store.specs.Lists.{list_at}
-use Rattle.saved_reader.specs.Bytes.{term_bytes}
+use Rattle.saved_fields.specs.Bytes.{term_bytes}
 use Rattle.saved_reader.proofs.Appending.{list_appended}
 use Rattle.saved_reader.proofs.saves.put_terms.Goals as goal
 

@@ -4,7 +4,7 @@ use Rattle.std.specs.List.{flat_map}
 use Rattle.block_store.specs.declared.list_of.ListOf.TheVariants as list
 use Rattle.block_store.specs.Lists.{list_at}
 use Rattle.odb_fields.specs.Putting.{KeepsVector, bytes_in}
-use Rattle.saved_reader.specs.Bytes.{term_bytes}
+use Rattle.saved_fields.specs.Bytes.{term_bytes}
 use Rattle.saved_reader.proofs.saves.put_terms.Given as goal
 
 abbrev pub invariant-loop-term : goal.invariant-loop-term

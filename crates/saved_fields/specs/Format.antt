@@ -1,11 +1,11 @@
 -- Formats: of the values of a type, which may be saved, their bytes, and how they are read. A record is one table of the
 -- formats of its fields, from which all three follow.
 use Rattle.std.specs.Prelude.{◌≡◌, ◌++◌, Bool, true, List, ℕ}
-use Rattle.saved_reader.specs.Bytes.{list_bytes}
-use Rattle.saved_reader.specs.Fields.{such}
-use Rattle.saved_reader.specs.Lawful.{IsFilledList, IsList}
-use Rattle.saved_reader.specs.Parts.{filled_list_at, list_at}
-use Rattle.saved_reader.specs.Reading.{Reading, both, judged, made}
+use Rattle.saved_fields.specs.Bytes.{list_bytes}
+use Rattle.saved_fields.specs.Fields.{such}
+use Rattle.saved_fields.specs.Lawful.{IsFilledList, IsList}
+use Rattle.saved_fields.specs.Parts.{filled_list_at, list_at}
+use Rattle.saved_fields.specs.Reading.{Reading, both, judged, made}
 
 -- the format of values: which of them may be saved, their bytes, and how they are read
 pub record Format (A : Type 0) : Type 1 where

@@ -18,7 +18,7 @@ use Rattle.odb_base.specs.declared.codes.site_class.SiteClass.TheVariants as sit
 use Rattle.odb_base.specs.declared.codes.track_axis.TrackAxis.TheVariants as track_axis
 use Rattle.odb_base.specs.declared.codes.usage.Usage.TheVariants as usage
 use Rattle.odb_base.specs.declared.codes.wire_status.WireStatus.TheVariants as wire_status
-use Rattle.saved_reader.proofs.Single.{IsSet}
+use Rattle.saved_fields.proofs.Single.{IsSet}
 
 pub directions_set : IsSet direction_code directions
 directions_set = record {

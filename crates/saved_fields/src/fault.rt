@@ -1,5 +1,5 @@
 ghost use Rattle.std.specs.Prelude.{◌≡◌};
-ghost use Rattle.saved_reader.specs.declared.fault.ReadFault.TheVariants as fault;
+ghost use Rattle.saved_fields.specs.declared.fault.ReadFault.TheVariants as fault;
 
 use odb_base::Kind;
 use odb_fields::Cut;

@@ -4,11 +4,11 @@ use Rattle.odb_base.specs.RowForm.{row_form_code, row_forms}
 use Rattle.odb_base.specs.declared.codes.row_form.RowForm.{RowForm}
 use Rattle.odb_base.specs.declared.codes.row_form.RowForm.TheVariants as row_form
 use Rattle.odb_fields.specs.Fields.{i32_bytes, u32_bytes}
-use Rattle.saved_reader.specs.Fields.{distance_at, number_at}
-use Rattle.saved_reader.specs.Sites.{may_step, most_sites, sites_at, sites_bytes}
-use Rattle.saved_reader.specs.Lawful.{IsDistance, IsNumber, IsSites}
-use Rattle.saved_reader.proofs.Codec.{IsCodec, then_codec}
-use Rattle.saved_reader.proofs.Single.{IsSet, coded_codec, distance_codec, number_codec}
+use Rattle.saved_fields.specs.Fields.{distance_at, number_at}
+use Rattle.saved_fields.specs.Sites.{may_step, most_sites, sites_at, sites_bytes}
+use Rattle.saved_fields.specs.Lawful.{IsDistance, IsNumber, IsSites}
+use Rattle.saved_fields.proofs.Codec.{IsCodec, then_codec}
+use Rattle.saved_fields.proofs.Single.{IsSet, coded_codec, distance_codec, number_codec}
 
 row_forms_set : IsSet row_form_code row_forms
 row_forms_set = record {

@@ -5,7 +5,7 @@ use Rattle.std.specs.Str.{bytes_eq}
 use Rattle.odb_base.specs.Name.{name_fault}
 use Rattle.odb_fields.specs.Reading.{bytes_at, i32_at, u32_at, u8_at}
 use Rattle.lawful_parts.specs.Tests.{is_coordinate}
-use Rattle.saved_reader.specs.Reading.{Reading, judged, plain, ◌by◌}
+use Rattle.saved_fields.specs.Reading.{Reading, judged, plain, ◌by◌}
 
 -- the value, where it passes
 abbrev pub such : {A : Type 0} → (A → Bool) → A → Option A

@@ -13,10 +13,10 @@ use Rattle.odb_base.specs.declared.geometry.Rect.{Rect}
 use Rattle.odb_fields.specs.Reading.{Cursor, u32_at, u8_at, ◌>>=◌}
 use Rattle.slot_pool.specs.Table.{Table}
 use Rattle.lawful_parts.specs.Tests.{is_coordinate}
-use Rattle.saved_reader.specs.Fault as fault
-use Rattle.saved_reader.specs.Fault.{Fault}
-use Rattle.saved_reader.specs.Fields.{coded_at, coordinate_at, distance_at, flag_at, id_at, is_from, number_at, such}
-use Rattle.saved_reader.specs.Reading.{Reading, both, judged, made, many_at, plain, ◌by◌, ◌then◌}
+use Rattle.saved_fields.specs.Fault as fault
+use Rattle.saved_fields.specs.Fault.{Fault}
+use Rattle.saved_fields.specs.Fields.{coded_at, coordinate_at, distance_at, flag_at, id_at, is_from, number_at, such}
+use Rattle.saved_fields.specs.Reading.{Reading, both, judged, made, many_at, plain, ◌by◌, ◌then◌}
 
 module _ {A : Type 0} where
   -- a list of at most so many items: how many, which is judged before they are looked for, and they

@@ -11,15 +11,15 @@ use Rattle.odb_base.specs.Usage.{usage_code, usages}
 use Rattle.odb_base.specs.WireStatus.{wire_status_code, wire_statuses}
 use Rattle.odb_base.specs.declared.codes.kind.Kind.{Kind}
 use Rattle.lawful_parts.specs.Tests.{is_coordinate}
-use Rattle.saved_reader.specs.FieldFormats.{any_text_field, coded_field, coordinate_field, direction_field, distance_field, flag_field, id_field, layer_direction_field, layer_type_field, name_field, no_text_field, number_field, orient_field, region_type_field, site_class_field, small_field, text_field, track_axis_field, usage_field, wire_status_field, word_field}
-use Rattle.saved_reader.specs.Format.{Format, fields, filled_list, list, passing, ◌&◌}
-use Rattle.saved_reader.specs.PartFormats.{absent_field, ids_field, no_ids_field, no_list_field, optional, place_field, rect_field, shape_format, shape_of, shapes_field, table_field, term_field}
-use Rattle.saved_reader.proofs.Codec.{IsCodec, and_codec, record_codec}
-use Rattle.saved_reader.proofs.Compound.{absent_codec, place_codec, rect_codec, table_codec}
-use Rattle.saved_reader.proofs.Counted.{filled_list_codec, list_codec, no_list_codec, option_codec}
-use Rattle.saved_reader.proofs.Sets.{directions_set, layer_directions_set, layer_types_set, orients_set, region_types_set, site_classes_set, track_axes_set, usages_set, wire_statuses_set}
-use Rattle.saved_reader.proofs.Single.{IsSet, coded_codec, distance_codec, flag_codec, id_codec, name_codec, number_codec, small_codec, such_codec, text_codec, word_codec}
-use Rattle.saved_reader.proofs.Terms.{term_codec}
+use Rattle.saved_fields.specs.FieldFormats.{any_text_field, coded_field, coordinate_field, direction_field, distance_field, flag_field, id_field, layer_direction_field, layer_type_field, name_field, no_text_field, number_field, orient_field, region_type_field, site_class_field, small_field, text_field, track_axis_field, usage_field, wire_status_field, word_field}
+use Rattle.saved_fields.specs.Format.{Format, fields, filled_list, list, passing, ◌&◌}
+use Rattle.saved_fields.specs.PartFormats.{absent_field, ids_field, no_ids_field, no_list_field, optional, place_field, rect_field, shape_format, shape_of, shapes_field, table_field, term_field}
+use Rattle.saved_fields.proofs.Codec.{IsCodec, and_codec, record_codec}
+use Rattle.saved_fields.proofs.Compound.{absent_codec, place_codec, rect_codec, table_codec}
+use Rattle.saved_fields.proofs.Counted.{filled_list_codec, list_codec, no_list_codec, option_codec}
+use Rattle.saved_fields.proofs.Sets.{directions_set, layer_directions_set, layer_types_set, orients_set, region_types_set, site_classes_set, track_axes_set, usages_set, wire_statuses_set}
+use Rattle.saved_fields.proofs.Single.{IsSet, coded_codec, distance_codec, flag_codec, id_codec, name_codec, number_codec, small_codec, such_codec, text_codec, word_codec}
+use Rattle.saved_fields.proofs.Terms.{term_codec}
 
 -- the reading and the bytes are each the way back of the other
 pub record IsFormat {A : Type 0} (format : Format A) : Type 0 where

@@ -1,13 +1,12 @@
 ghost use Rattle.std.specs.Prelude.{◌≡◌, ◌++◌, OnOk};
 ghost use Rattle.odb_fields.specs.Putting.{KeepsVector, bytes_in};
-ghost use Rattle.saved_reader.specs.Bytes.{place_bytes, rect_bytes, term_bytes};
-ghost use Rattle.saved_reader.specs.Fields.{distance_at};
-ghost use Rattle.saved_reader.specs.Parts.{absent_at, may_be_turned, may_stand, place_at, rect_at, term_at, term_number, turn_at, fitting as fitting_number};
-ghost use Rattle.saved_reader.specs.Reading.{Reads};
+ghost use Rattle.saved_fields.specs.Bytes.{place_bytes, rect_bytes, term_bytes};
+ghost use Rattle.saved_fields.specs.Fields.{distance_at};
+ghost use Rattle.saved_fields.specs.Parts.{absent_at, may_be_turned, may_stand, place_at, rect_at, term_at, term_number, turn_at, fitting as fitting_number};
+ghost use Rattle.saved_fields.specs.Reading.{Reads};
 
 use crate::fault::ReadFault;
-use crate::fields::{get_coded, get_coordinate, get_from, get_id, in_limit};
-use crate::saves::put_distance;
+use crate::fields::{get_coded, get_coordinate, get_from, get_id, in_limit, put_distance};
 use odb_base::{Coded, Kind, Orient, PlaceStatus, Placement, Rect};
 use odb_fields::{Get, Put};
 use std::alloc::AllocError;

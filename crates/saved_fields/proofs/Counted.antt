@@ -7,14 +7,14 @@ use Rattle.odb_fields.specs.Bytes.{AreBytes}
 use Rattle.odb_fields.specs.Fields.{u32_bytes, u8_bytes}
 use Rattle.odb_fields.specs.Reading.{Cursor, ReadsBack, Takes, unread, u32_at}
 use Rattle.odb_fields.proofs.Inputs.{AreBytes-taken, Takes-append, bind_ok, made_back, ok_is, then_back}
-use Rattle.saved_reader.specs.Bytes.{list_bytes, option_bytes}
-use Rattle.saved_reader.specs.Fields.{flag_at, is_between, number_at}
-use Rattle.saved_reader.specs.Parts.{filled_list_at, list_at, no_list_at, option_at, stated_at}
-use Rattle.saved_reader.specs.Reading.{Reading, made, many_at, plain, with_first, ◌by◌}
-use Rattle.saved_reader.specs.Lawful.{IsFilledList, IsList, IsNumber, IsOption}
-use Rattle.saved_reader.proofs.Codec.{IsCodec, by_codec, same_codec}
-use Rattle.saved_reader.proofs.FaultPlaces.{StaysIn, made_stays, many_stays}
-use Rattle.saved_reader.proofs.Single.{flag_codec, flag_number, number_codec, such_passes}
+use Rattle.saved_fields.specs.Bytes.{list_bytes, option_bytes}
+use Rattle.saved_fields.specs.Fields.{flag_at, is_between, number_at}
+use Rattle.saved_fields.specs.Parts.{filled_list_at, list_at, no_list_at, option_at, stated_at}
+use Rattle.saved_fields.specs.Reading.{Reading, made, many_at, plain, with_first, ◌by◌}
+use Rattle.saved_fields.specs.Lawful.{IsFilledList, IsList, IsNumber, IsOption}
+use Rattle.saved_fields.proofs.Codec.{IsCodec, by_codec, same_codec}
+use Rattle.saved_fields.proofs.FaultPlaces.{StaysIn, made_stays, many_stays}
+use Rattle.saved_fields.proofs.Single.{flag_codec, flag_number, number_codec, such_passes}
 
 -- nothing is taken
 Takes-none : (input : Cursor) → Takes input [] input

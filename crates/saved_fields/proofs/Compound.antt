@@ -14,16 +14,16 @@ use Rattle.odb_fields.specs.Reading.{Cursor, u32_at, u8_at, ◌>>=◌}
 use Rattle.odb_fields.proofs.Inputs.{bind_ok}
 use Rattle.slot_pool.specs.Table.{Table}
 use Rattle.lawful_parts.specs.Tests.{is_coordinate}
-use Rattle.saved_reader.specs.Bytes.{option_bytes, place_bytes, rect_bytes, table_bytes}
-use Rattle.saved_reader.specs.Fields.{coded_at, distance_at, id_at, is_from}
-use Rattle.saved_reader.specs.Parts.{absent_at, free_count_at, may_be_turned, may_have, may_stand, none_if_0, option_at, place_at, placement_of, rect_at, rect_of, slot_count_at, table_at, table_of, turn_at, within_cap}
-use Rattle.saved_reader.specs.Reading.{Reading, plain}
-use Rattle.saved_reader.specs.Lawful.{IsDistance, IsFreeCount, IsId, IsOption, IsPlacementFields, IsRectFields, IsSlotCount, IsTableOf, IsTurn, IsWithin}
-use Rattle.saved_reader.proofs.Codec.{IsCodec, and_codec, judged_codec, record_codec, same_codec, then_codec}
-use Rattle.saved_reader.proofs.Counted.{counted_codec, option_codec}
-use Rattle.saved_reader.proofs.Sets.{orients_set}
-use Rattle.saved_reader.proofs.FaultPlaces.{EndsIn, IsIn, bind_in}
-use Rattle.saved_reader.proofs.Single.{IsSet, coded_codec, distance_codec, id_codec, such_codec, u32_codec, u8_codec}
+use Rattle.saved_fields.specs.Bytes.{option_bytes, place_bytes, rect_bytes, table_bytes}
+use Rattle.saved_fields.specs.Fields.{coded_at, distance_at, id_at, is_from}
+use Rattle.saved_fields.specs.Parts.{absent_at, free_count_at, may_be_turned, may_have, may_stand, none_if_0, option_at, place_at, placement_of, rect_at, rect_of, slot_count_at, table_at, table_of, turn_at, within_cap}
+use Rattle.saved_fields.specs.Reading.{Reading, plain}
+use Rattle.saved_fields.specs.Lawful.{IsDistance, IsFreeCount, IsId, IsOption, IsPlacementFields, IsRectFields, IsSlotCount, IsTableOf, IsTurn, IsWithin}
+use Rattle.saved_fields.proofs.Codec.{IsCodec, and_codec, judged_codec, record_codec, same_codec, then_codec}
+use Rattle.saved_fields.proofs.Counted.{counted_codec, option_codec}
+use Rattle.saved_fields.proofs.Sets.{orients_set}
+use Rattle.saved_fields.proofs.FaultPlaces.{EndsIn, IsIn, bind_in}
+use Rattle.saved_fields.proofs.Single.{IsSet, coded_codec, distance_codec, id_codec, such_codec, u32_codec, u8_codec}
 
 -- ---- placements
 

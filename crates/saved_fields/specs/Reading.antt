@@ -2,10 +2,10 @@
 use Rattle.std.specs.Prelude.{◌≡◌, List, [], ◌∷◌, ℕ, zero, suc, Option, Some, None, Result, Ok, Err}
 use Rattle.odb_fields.specs.declared.get.Cut.{Cut}
 use Rattle.odb_fields.specs.Reading.{Cursor, ◌>>=◌, with_fault}
-use Rattle.saved_reader.specs.declared.fault.ReadFault.{ReadFault}
-use Rattle.saved_reader.specs.declared.fault.ReadFault.TheVariants as told
-use Rattle.saved_reader.specs.Fault as fault
-use Rattle.saved_reader.specs.Fault.{Fault}
+use Rattle.saved_fields.specs.declared.fault.ReadFault.{ReadFault}
+use Rattle.saved_fields.specs.declared.fault.ReadFault.TheVariants as told
+use Rattle.saved_fields.specs.Fault as fault
+use Rattle.saved_fields.specs.Fault.{Fault}
 
 -- what reading gives at a place of an input
 abbrev pub Reading : Type 0 → Type 0

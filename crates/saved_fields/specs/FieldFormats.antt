@@ -20,10 +20,10 @@ use Rattle.odb_base.specs.declared.codes.usage.Usage.{Usage}
 use Rattle.odb_base.specs.declared.codes.wire_status.WireStatus.{WireStatus}
 use Rattle.odb_fields.specs.Fields.{i32_bytes, text_bytes, u8_bytes, u32_bytes}
 use Rattle.lawful_parts.specs.Tests.{is_coordinate}
-use Rattle.saved_reader.specs.Bytes.{flag_bytes}
-use Rattle.saved_reader.specs.Fields.{coded_at, distance_at, flag_at, id_at, name_at, number_at, small_at, text_at, word_at}
-use Rattle.saved_reader.specs.Format.{Format}
-use Rattle.saved_reader.specs.Lawful.{IsDistance, IsId, IsNameText, IsNumber, IsSmall, IsText, IsWord}
+use Rattle.saved_fields.specs.Bytes.{flag_bytes}
+use Rattle.saved_fields.specs.Fields.{coded_at, distance_at, flag_at, id_at, name_at, number_at, small_at, text_at, word_at}
+use Rattle.saved_fields.specs.Format.{Format}
+use Rattle.saved_fields.specs.Lawful.{IsDistance, IsId, IsNameText, IsNumber, IsSmall, IsText, IsWord}
 
 -- an identifier, or any other number of four bytes
 abbrev pub id_field : Format ℕ

@@ -6,8 +6,8 @@ use Rattle.odb_base.specs.declared.codes.row_form.RowForm.TheVariants as row_for
 use Rattle.block_records.specs.declared.row.RowRec.{RowRec}
 use Rattle.odb_fields.specs.Fields.{i32_bytes, u8_bytes, u32_bytes}
 use Rattle.lawful_parts.specs.Tests.{is_coordinate}
-use Rattle.saved_reader.specs.Fields.{coded_at, distance_at, number_at}
-use Rattle.saved_reader.specs.Reading.{Reading, ◌then◌}
+use Rattle.saved_fields.specs.Fields.{coded_at, distance_at, number_at}
+use Rattle.saved_fields.specs.Reading.{Reading, ◌then◌}
 
 -- how many sites a row of this form has along an axis, at most
 abbrev pub most_sites : RowForm → ℕ

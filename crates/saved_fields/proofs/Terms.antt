@@ -5,11 +5,11 @@ use Rattle.odb_base.specs.Kind.{kind_code, kinds}
 use Rattle.odb_base.specs.declared.codes.kind.Kind.{Kind}
 use Rattle.odb_base.specs.declared.codes.kind.Kind.TheVariants as kind
 use Rattle.odb_fields.specs.Fields.{u8_bytes, u32_bytes}
-use Rattle.saved_reader.specs.Bytes.{term_bytes, term_kind}
-use Rattle.saved_reader.specs.Parts.{fitting, term_at, term_number}
-use Rattle.saved_reader.specs.Lawful.{IsId, IsTerm}
-use Rattle.saved_reader.proofs.Codec.{IsCodec, and_codec, made_codec, same_codec}
-use Rattle.saved_reader.proofs.Single.{IsSet, coded_codec, id_codec}
+use Rattle.saved_fields.specs.Bytes.{term_bytes, term_kind}
+use Rattle.saved_fields.specs.Parts.{fitting, term_at, term_number}
+use Rattle.saved_fields.specs.Lawful.{IsId, IsTerm}
+use Rattle.saved_fields.proofs.Codec.{IsCodec, and_codec, made_codec, same_codec}
+use Rattle.saved_fields.proofs.Single.{IsSet, coded_codec, id_codec}
 
 -- the kind of the terminal under a number
 abbrev kind_at : ℕ → Kind

@@ -4,9 +4,9 @@ use Rattle.std.proofs.lemmas.Bool.{cases_Bool, ltb-false}
 use Rattle.std.proofs.lemmas.List.{length-drop}
 use Rattle.odb_fields.specs.declared.get.Cut.{Cut}
 use Rattle.odb_fields.specs.Reading.{Cursor, bytes_at, i32_at, u32_at, u8_at, unread, value_at, with_fault, ◌>>=◌}
-use Rattle.saved_reader.specs.Fault as fault
-use Rattle.saved_reader.specs.Fault.{Fault, fault_place}
-use Rattle.saved_reader.specs.Reading.{Reading, given, judged, made, many_at, plain, with_first, ◌by◌, ◌then◌}
+use Rattle.saved_fields.specs.Fault as fault
+use Rattle.saved_fields.specs.Fault.{Fault, fault_place}
+use Rattle.saved_fields.specs.Reading.{Reading, given, judged, made, many_at, plain, with_first, ◌by◌, ◌then◌}
 
 -- the input has this length, and its place is within it
 abbrev pub IsIn : ℕ → Cursor → Type 0

@@ -1,12 +1,15 @@
-ghost use Rattle.std.specs.Prelude.{◌≡◌, ◌<◌, ◌^◌, length};
+ghost use Rattle.std.specs.Prelude.{◌≡◌, ◌++◌, ◌<◌, ◌^◌, OnOk, length};
 ghost use Rattle.lawful_parts.specs.Tests.{is_coordinate};
-ghost use Rattle.saved_reader.specs.Fields.{any_text_at, coded_at, coordinate_at, distance_at, flag_at, id_at, is_from, name_at, no_text_at, number_at, small_at, text_at, word_at};
-ghost use Rattle.saved_reader.specs.Reading.{Reads, ReadsAs};
+ghost use Rattle.odb_fields.specs.Fields.{i32_bytes};
+ghost use Rattle.odb_fields.specs.Putting.{KeepsVector, bytes_in};
+ghost use Rattle.saved_fields.specs.Bytes.{flag_bytes};
+ghost use Rattle.saved_fields.specs.Fields.{any_text_at, coded_at, coordinate_at, distance_at, flag_at, id_at, is_from, name_at, no_text_at, number_at, small_at, text_at, word_at};
+ghost use Rattle.saved_fields.specs.Reading.{Reads, ReadsAs};
 
 use crate::fault::ReadFault;
 use odb_base::{COORDINATE_LIMIT, Coded, Name, NameFault, Text};
-use odb_fields::Get;
-use std::alloc::Global;
+use odb_fields::{Get, Put};
+use std::alloc::{AllocError, Global};
 
 /// Reads a number of one byte up to `most`.
 #[tactic(auto, unfolding(crate::specs::Fields::small_at))]
@@ -166,4 +169,21 @@ pub fn get_word(alloc: Global, input: &mut Get<'_>, word: &'static [u8]) -> Resu
     } else {
         Err(ReadFault::BadField { at })
     }
+}
+
+/// Appends a flag.
+pub fn put_flag(put: &mut Put<'_>, flag: bool) -> Result<(), AllocError>
+    ensures ok { OnOk result (bytes_in put.new ≡ bytes_in put.old ++ flag_bytes flag) }
+    ensures vector { KeepsVector put.old put.new }
+{
+    put.put_u8(u8::from(flag))
+}
+
+/// Appends a signed number of four bytes. It is taken by reference, since what is read of a field behind a reference is
+/// converted first, and each caller would have to prove that away.
+pub fn put_distance(put: &mut Put<'_>, distance: &i32) -> Result<(), AllocError>
+    ensures ok { OnOk result (bytes_in put.new ≡ bytes_in put.old ++ i32_bytes distance.now) }
+    ensures vector { KeepsVector put.old put.new }
+{
+    put.put_i32(*distance)
 }

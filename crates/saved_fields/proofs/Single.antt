@@ -9,12 +9,12 @@ use Rattle.odb_fields.specs.Fields.{i32_bytes, text_bytes, u32_bytes, u8_bytes}
 use Rattle.odb_fields.specs.Reading.{Cursor, bytes_at, i32_at, u32_at, u8_at}
 use Rattle.odb_fields.proofs.Inputs.{bind_ok, bytes_back, bytes_only, with_fault_back, with_fault_ok}
 use Rattle.odb_fields.proofs.Numbers.{i32_back, i32_only, u32_back, u32_only, u8_back, u8_only}
-use Rattle.saved_reader.specs.Fault as fault
-use Rattle.saved_reader.specs.Fields.{coded, coded_at, distance_at, flag_at, flag_of, id_at, is_between, is_name, name_at, number_at, small_at, such, text_at, word_at}
-use Rattle.saved_reader.specs.Reading.{Reading, given, judged, plain}
-use Rattle.saved_reader.specs.Lawful.{IsDistance, IsId, IsNameText, IsNumber, IsSmall, IsText, IsWord}
-use Rattle.saved_reader.proofs.FaultPlaces.{bytes_stay, i32_stays, plain_stays, u32_stays, u8_stays}
-use Rattle.saved_reader.proofs.Codec.{IsCodec, by_codec, given_ok, judged_codec, plain_codec}
+use Rattle.saved_fields.specs.Fault as fault
+use Rattle.saved_fields.specs.Fields.{coded, coded_at, distance_at, flag_at, flag_of, id_at, is_between, is_name, name_at, number_at, small_at, such, text_at, word_at}
+use Rattle.saved_fields.specs.Reading.{Reading, given, judged, plain}
+use Rattle.saved_fields.specs.Lawful.{IsDistance, IsId, IsNameText, IsNumber, IsSmall, IsText, IsWord}
+use Rattle.saved_fields.proofs.FaultPlaces.{bytes_stay, i32_stays, plain_stays, u32_stays, u8_stays}
+use Rattle.saved_fields.proofs.Codec.{IsCodec, by_codec, given_ok, judged_codec, plain_codec}
 
 -- ---- fields as they stand
 

@@ -10,9 +10,9 @@ use Rattle.odb_base.specs.declared.geometry.Placement.{Placement}
 use Rattle.odb_base.specs.declared.geometry.Rect.{Rect}
 use Rattle.slot_pool.specs.Table.{Table}
 use Rattle.lawful_parts.specs.Tests.{is_coordinate}
-use Rattle.saved_reader.specs.Fields.{is_between, is_from, is_name}
-use Rattle.saved_reader.specs.Parts.{may_be_turned, may_have, may_stand}
-use Rattle.saved_reader.specs.Sites.{Sites, may_step, most_sites}
+use Rattle.saved_fields.specs.Fields.{is_between, is_from, is_name}
+use Rattle.saved_fields.specs.Parts.{may_be_turned, may_have, may_stand}
+use Rattle.saved_fields.specs.Sites.{Sites, may_step, most_sites}
 
 -- an identifier of 32 bits
 abbrev pub IsId : ℕ → Type 0

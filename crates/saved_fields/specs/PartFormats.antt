@@ -5,11 +5,11 @@ use Rattle.odb_base.specs.declared.geometry.Placement.{Placement}
 use Rattle.odb_base.specs.declared.geometry.Rect.{Rect}
 use Rattle.odb_base.specs.declared.geometry.Shape.{Shape}
 use Rattle.slot_pool.specs.Table.{Table}
-use Rattle.saved_reader.specs.Bytes.{list_bytes, option_bytes, place_bytes, rect_bytes, table_bytes, term_bytes}
-use Rattle.saved_reader.specs.FieldFormats.{id_field}
-use Rattle.saved_reader.specs.Format.{Format, fields, list, ◌&◌}
-use Rattle.saved_reader.specs.Lawful.{IsOption, IsPlacementFields, IsRectFields, IsTableOf, IsTerm}
-use Rattle.saved_reader.specs.Parts.{absent_at, no_list_at, option_at, place_at, rect_at, table_at, term_at}
+use Rattle.saved_fields.specs.Bytes.{list_bytes, option_bytes, place_bytes, rect_bytes, table_bytes, term_bytes}
+use Rattle.saved_fields.specs.FieldFormats.{id_field}
+use Rattle.saved_fields.specs.Format.{Format, fields, list, ◌&◌}
+use Rattle.saved_fields.specs.Lawful.{IsOption, IsPlacementFields, IsRectFields, IsTableOf, IsTerm}
+use Rattle.saved_fields.specs.Parts.{absent_at, no_list_at, option_at, place_at, rect_at, table_at, term_at}
 
 -- a placement: the status, the point, and the orientation
 abbrev pub place_field : Format Placement

@@ -4,9 +4,9 @@ use Rattle.odb_fields.specs.declared.get.Cut.{Cut}
 use Rattle.odb_fields.specs.Bytes.{AreBytes}
 use Rattle.odb_fields.specs.Reading.{Cursor, ReadsBack, ReadsOnly, Takes, ◌>>=◌}
 use Rattle.odb_fields.proofs.Inputs.{AreBytes-taken, Takes-append, bind_ok, made_back, ok_is, then_back, with_fault_back, with_fault_ok}
-use Rattle.saved_reader.specs.Fault as fault
-use Rattle.saved_reader.specs.Reading.{Reading, both, given, judged, made, plain, ◌by◌, ◌then◌}
-use Rattle.saved_reader.proofs.FaultPlaces.{StaysIn, by_stays, judged_stays, made_stays, then_stays}
+use Rattle.saved_fields.specs.Fault as fault
+use Rattle.saved_fields.specs.Reading.{Reading, both, given, judged, made, plain, ◌by◌, ◌then◌}
+use Rattle.saved_fields.proofs.FaultPlaces.{StaysIn, by_stays, judged_stays, made_stays, then_stays}
 
 -- Of the values that fit: where its bytes stand, the value is read; and a value that was read has just these bytes. Reading stays
 -- within the input.

@@ -1,0 +1,9 @@
+pub mod Codec
+pub mod Compound
+pub mod Counted
+pub mod FaultPlaces
+pub mod Formats
+pub mod Sets
+pub mod Single
+pub mod SitesCodec
+pub mod Terms

@@ -1,0 +1,11 @@
+pub mod Bytes
+pub mod Fault
+pub mod FieldFormats
+pub mod Fields
+pub mod Format
+pub mod Lawful
+pub mod PartFormats
+pub mod Parts
+pub mod Reading
+pub mod Sites
+pub use Rattle.odb_fields.specs.Putting
