@@ -4,6 +4,7 @@ use Rattle.std.specs.List.{list_all, position_or_len}
 use Rattle.std.proofs.lemmas.Bool.{eqb-true}
 use Rattle.std.proofs.lemmas.List.Sums.{passes_at_first, prefix_len-le-length}
 use Rattle.ld_words.specs.declared.input.Input.{Input}
+use Rattle.ld_words.specs.declared.scan.Span.{Span}
 use Rattle.ld_words.specs.declared.word.Word.{Word}
 use Rattle.ld_words.specs.declared.word.WordFault.TheVariants as fault
 use Rattle.ld_words.specs.Input.{BeginsComment, Continues, Finishes, Grew, IsLast, IsPast, Moved, Stays, reading_at}
@@ -14,13 +15,14 @@ use Rattle.ld_words.proofs.Places.{front-passes, position_none, position_some, t
 use Rattle.ld_words.proofs.Telling.{read_all, read_last, read_on, read_to_end, same_by, same_map, same_on}
 
 -- blanks are used up
-pub blanks_read : {S : Type 0} (left : S → Option (List ℕ)) (old new : Input S) (count : ℕ) → count ≡ position_or_len (λ b. not (is_blank b)) old.window
-    → Moved old new count (line_feeds (take count old.window)) → reading_at left Between new ≡ reading_at left Between old
-blanks_read left old new count is moved =
+pub blanks_read : {S : Type 0} (left : S → Option (List ℕ)) (old new : Input S) (blanks : Span) → blanks.bytes ≡ position_or_len (λ b. not (is_blank b)) old.window
+    → blanks.lines ≡ line_feeds (take blanks.bytes old.window) → Moved old new blanks.bytes blanks.lines → reading_at left Between new ≡ reading_at left Between old
+blanks_read left old new blanks is lines moved =
+    let count = blanks.bytes in
     let hand = old.window in
     let blanks : list_all is_blank (take count hand) ≡ true = sym (twice_denied is_blank (take count hand)) ∙ (rw is (front-passes (λ b. not (not (is_blank b))) hand)) in
     let within : count ≤ length hand = rw is (prefix_len-le-length (λ b. not (not (is_blank b))) hand) in
-    rw (moved.source, moved.line, moved.taken, moved.window)
+    rw (moved.source, moved.line, moved.taken, moved.window, lines)
     (same_map _ _ (left old.source) (λ l. blanks_passed old.line old.taken count hand blanks within old.within l))
 
 -- the number sign ends no line

@@ -14,6 +14,10 @@ ten_some k = let ten : 1 ≤ 10 = omega arith in pow-le-pow_right {n = 10} ten {
 pub ten_bound : (k : ℕ) → k ≤ 30 → (0 < 10 ^ k) × (10 ^ k ≤ 10 ^ 30)
 ten_bound k le = (omega (arith, ten_some k), let ten : 1 ≤ 10 = omega arith in pow-le-pow_right {n = 10} ten {i = k} {j = 30} le)
 
+-- a power of up to thirteen
+pub short_bound : (k : ℕ) → k ≤ 13 → 1 * 10 ^ k ≤ 10 ^ 13
+short_bound k le = let ten : 1 ≤ 10 = omega arith in omega (arith, pow-le-pow_right {n = 10} ten {i = k} {j = 13} le)
+
 -- one more digit
 room_step : (n d k room : ℕ) → d ≤ 9 → (n + 1) * 10 ^ suc k ≤ room → (n * 10 + d + 1) * 10 ^ k ≤ room
 room_step n d k room digit fits =
@@ -37,9 +41,9 @@ room_on n [] room some digit fits = absurd (omega (arith, some))
 room_on n (b ∷ digits) room some digit fits = room_step n (b - 48) (length digits) room (digit_value b digit) fits
 
 -- a number that leaves room for one digit
-pub room_one : (n : ℕ) (digits : List ℕ) → 0 < length digits → (n + 1) * 10 ^ length digits ≤ 10 ^ 30 → (n + 1) * 10 ≤ 10 ^ 30
-room_one n [] some room = absurd (omega (arith, some))
-room_one n (b ∷ digits) some room = omega (arith, rw (pow-suc 10 (length digits)) at room, mul-le-mul_left ((n + 1) * 10) (ten_some (length digits)))
+pub room_one : (n : ℕ) (digits : List ℕ) (most : ℕ) → 0 < length digits → (n + 1) * 10 ^ length digits ≤ most → (n + 1) * 10 ≤ most
+room_one n [] most some room = absurd (omega (arith, some))
+room_one n (b ∷ digits) most some room = omega (arith, rw (pow-suc 10 (length digits)) at room, mul-le-mul_left ((n + 1) * 10) (ten_some (length digits)))
 
 -- a product in two halves
 pub rounded_halves : (whole units d : ℕ) → 0 < d

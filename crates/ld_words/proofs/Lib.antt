@@ -5,6 +5,7 @@ pub mod Decimals
 pub mod Ended
 pub mod Places
 pub mod Runs
+pub mod Scans
 pub mod Spaced
 pub mod Telling
 pub mod Windows

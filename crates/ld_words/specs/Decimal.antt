@@ -1,5 +1,5 @@
 -- Which words are decimals, and what they are in database units.
-use Rattle.std.specs.Prelude.{◌+◌, ◌-◌, ◌*◌, ◌/◌, ◌^◌, ◌==◌, ◌&&◌, ◌||◌, ◌++◌, ℤ, pos, neg_ℤ, Bool, List, ℕ, Option, Some, None, Result, Ok, Err, if◌then◌else◌, drop, fold, length, nat_le, slice_index}
+use Rattle.std.specs.Prelude.{◌+◌, ◌-◌, ◌*◌, ◌/◌, ◌^◌, ◌==◌, ◌&&◌, ◌||◌, ◌++◌, ℤ, pos, neg_ℤ, Bool, true, List, ℕ, Option, Some, None, Result, Ok, Err, if◌then◌else◌, drop, fold, length, nat_le, slice_index}
 use Rattle.std.specs.List.{after_first, before_first, list_all}
 use Rattle.ld_words.specs.declared.decimal.NumberFault.{NumberFault}
 use Rattle.ld_words.specs.declared.decimal.NumberFault.TheVariants as fault
@@ -29,6 +29,11 @@ digits_of text = before_first is_point text ++ after_first is_point text
 -- how many digits stand after the point
 abbrev pub places_of : List ℕ → ℕ
 places_of text = length (after_first is_point text)
+
+-- of a first byte and a length: there is no byte, or a point alone
+abbrev pub lacks_digits : Option ℕ → ℕ → Bool
+lacks_digits None size = true
+lacks_digits (Some first) size = size == 1 && is_point first
 
 -- a number with one more digit
 abbrev pub with_digit : ℕ → ℕ → ℕ
@@ -66,6 +71,13 @@ unfoldable pub units_of : ℕ → List ℕ → Result ℤ NumberFault
 units_of per_micron word =
     let text = unsigned word in
     if is_decimal text then coordinate (is_negative word) (magnitude_of per_micron text)
+    else Err fault.NotNumber
+
+-- the magnitude of a decimal in units, where it is one of a coordinate
+abbrev pub magnitude_in : ℕ → List ℕ → Result ℕ NumberFault
+magnitude_in per_micron text =
+    if is_decimal text
+    then (if nat_le (magnitude_of per_micron text) 2000000000 then Ok (magnitude_of per_micron text) else Err fault.OutOfRange)
     else Err fault.NotNumber
 
 -- the number with these digits behind its own, where they are digits

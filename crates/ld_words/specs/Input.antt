@@ -4,7 +4,7 @@ use Rattle.std.specs.Option.{option_map}
 use Rattle.ld_words.specs.declared.input.Fill.{Fill}
 use Rattle.ld_words.specs.declared.input.Fill.TheVariants.{More, End, Past}
 use Rattle.ld_words.specs.declared.input.Input.{Input}
-use Rattle.ld_words.specs.declared.word.Word.{Word}
+use Rattle.ld_words.specs.declared.scan.Span.{Span}
 use Rattle.ld_words.specs.Reading.{Between, Comment, Place, Reading, done, is_blank, is_quote, opens_comment, read, with_word}
 use Rattle.ld_words.specs.Told.{SameIfTold, ahead}
 
@@ -12,6 +12,11 @@ use Rattle.ld_words.specs.Told.{SameIfTold, ahead}
 abbrev pub reading_at : {S : Type 0} → (S → Option (List ℕ)) → Place → Input S → Option Reading
 reading_at left place input =
     option_map (λ l. read place input.line input.taken (input.window ++ l)) (left input.source)
+
+-- what is read behind the first bytes at hand
+abbrev pub reading_behind : {S : Type 0} → (S → Option (List ℕ)) → Input S → Span → Option Reading
+reading_behind left input span =
+    option_map (λ l. read Between (input.line + span.lines) (input.taken + span.bytes) (drop span.bytes input.window ++ l)) (left input.source)
 
 -- what is read where the first bytes at hand are a word with so many line feeds
 abbrev pub reading_with : {S : Type 0} → (S → Option (List ℕ)) → Input S → ℕ → ℕ → Option Reading
@@ -109,8 +114,12 @@ abbrev pub BeginsQuoted : List ℕ → Type 0
 BeginsQuoted [] = ⊥
 BeginsQuoted (b ∷ bytes) = is_quote b ≡ true
 
--- the next word is this one, or there is none
-abbrev pub NextIs : {S : Type 0} → (S → Option (List ℕ)) → Input S → Input S → Option Word → Type 0
-NextIs left old new None = IsAtEnd left old new
-NextIs left old new (Some word) =
-    SameIfTold (reading_at left Between old) (option_map (with_word word) (reading_at left Between new))
+-- the first bytes at hand are the next word, or there is none
+pub record HasSpan {S : Type 0} (left : S → Option (List ℕ)) (old new : Input S) (span : Span) : Type 0 where
+  pub word : HasWord left old new span.bytes span.lines
+  pub lines : span.lines ≤ span.bytes
+
+-- what is found: the next word, or that there is none
+abbrev pub Finds : {S : Type 0} → (S → Option (List ℕ)) → Input S → Input S → Option Span → Type 0
+Finds left old new None = IsAtEnd left old new
+Finds left old new (Some span) = HasSpan left old new span

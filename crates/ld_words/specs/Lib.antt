@@ -3,6 +3,7 @@ pub mod Decimal
 pub mod Input
 pub mod Laws
 pub mod Reading
+pub mod Scan
 pub mod Told
 pub mod Window
 pub mod Words

@@ -1,7 +1,8 @@
 ghost use Rattle.std.specs.Prelude.{◌≡◌, ◌+◌, ◌*◌, ◌^◌, ◌<◌, ◌≤◌, ◌++◌, None, Some, IfSome, if◌then◌else◌, length, nat_le, position};
 ghost use Rattle.std.specs.List.{after_first, before_first};
-ghost use Rattle.ld_words.specs.Decimal.{has_sign, is_digit, is_negative, is_point, number_with, rounded, signed, units_of, unsigned, whole_of};
+ghost use Rattle.ld_words.specs.Decimal.{has_sign, is_decimal, is_digit, is_negative, is_point, magnitude_in, number_with, rounded, signed, units_of, unsigned, whole_of};
 
+use crate::short_decimal::{SHORT_LIMIT, ShortDecimal, UNITS_LIMIT};
 use thiserror::Error;
 
 /// The greatest coordinate; its negative is the least one.
@@ -34,12 +35,56 @@ pub enum NumberFault {
 pub fn to_units(word: &[u8], per_micron: u32) -> Result<i64, NumberFault>
     ensures { result ≡ units_of per_micron word.now }
 {
+    let magnitude = magnitude(without_sign(word), per_micron)?;
+    Ok(with_sign(starts_negative(word), magnitude))
+}
+
+/// Whether the word is a decimal, of whatever size.
+pub fn is_number(word: &[u8]) -> bool
+    ensures { result ≡ is_decimal (unsigned word.now) }
+{
     let text = without_sign(word);
+    if text.len() <= SHORT_LIMIT {
+        ShortDecimal::new(text).is_some()
+    } else {
+        is_long_number(text)
+    }
+}
+
+fn is_long_number(text: &[u8]) -> bool
+    ensures { result ≡ is_decimal text.now }
+{
+    let (front, back) = around_point(text);
+    whole_number(front, back).is_some()
+}
+
+fn magnitude(text: &[u8], per_micron: u32) -> Result<u64, NumberFault>
+    ensures { result ≡ magnitude_in per_micron text.now }
+{
+    if text.len() > SHORT_LIMIT || per_micron > UNITS_LIMIT {
+        return long_magnitude(text, per_micron);
+    }
+    match ShortDecimal::new(text) {
+        Some(decimal) => coordinate(decimal.nearest(per_micron)),
+        None => Err(NumberFault::NotNumber),
+    }
+}
+
+fn long_magnitude(text: &[u8], per_micron: u32) -> Result<u64, NumberFault>
+    ensures { result ≡ magnitude_in per_micron text.now }
+{
     let (front, back) = around_point(text);
     let whole = whole_number(front, back).ok_or(NumberFault::NotNumber)?;
-    match nearest(whole, per_micron, back.len()) {
-        Some(magnitude) => Ok(with_sign(starts_negative(word), magnitude)),
-        None => Err(NumberFault::OutOfRange),
+    nearest(whole, per_micron, back.len()).ok_or(NumberFault::OutOfRange)
+}
+
+fn coordinate(magnitude: u64) -> Result<u64, NumberFault>
+    ensures { result ≡ (if nat_le magnitude 2000000000 then Ok magnitude else Err NumberFault.OutOfRange) }
+{
+    if magnitude <= COORDINATE_LIMIT as u64 {
+        Ok(magnitude)
+    } else {
+        Err(NumberFault::OutOfRange)
     }
 }
 
@@ -88,7 +133,7 @@ fn around_point(text: &[u8]) -> (&[u8], &[u8])
     }
 }
 
-fn is_decimal_digit(byte: u8) -> bool
+pub fn is_decimal_digit(byte: u8) -> bool
     ensures { result ≡ is_digit byte }
 {
     byte >= b'0' && byte <= b'9'
@@ -133,7 +178,7 @@ fn power_of_ten(exponent: usize) -> u128
 
 /// The whole number nearest to `whole` times `per_micron` over ten to the power of `places`, if it is a
 /// coordinate.
-fn nearest(whole: u128, per_micron: u32, places: usize) -> Option<u128>
+fn nearest(whole: u128, per_micron: u32, places: usize) -> Option<u64>
     requires whole { whole < 10 ^ 30 }
     requires places { places ≤ 30 }
     ensures { let n = rounded (whole * per_micron) (10 ^ places) in
@@ -150,13 +195,13 @@ fn nearest(whole: u128, per_micron: u32, places: usize) -> Option<u128>
     let rest = high % divisor * HALF + whole * (per_micron % HALF);
     let units = quotient * HALF + (2 * rest + divisor) / (2 * divisor);
     if units <= COORDINATE_LIMIT {
-        Some(units)
+        Some(units as u64)
     } else {
         None
     }
 }
 
-fn with_sign(negative: bool, magnitude: u128) -> i64
+fn with_sign(negative: bool, magnitude: u64) -> i64
     requires { magnitude ≤ 2000000000 }
     ensures { result ≡ signed negative magnitude }
 {

@@ -1,13 +1,11 @@
 ghost use Rattle.std.specs.Prelude.{◌≡◌, ◌+◌, ◌<◌, ◌≤◌, ◌↔◌, ◌==◌, ◌&&◌, [], false, true, if◌then◌else◌, IsTrue, IfErr, IfOk, IfSome, OnOk, OnSome, Some, length, nat_le, not, slice_get, take};
 
 use crate::scan::{
-    blanks_in, first_blank, first_line_feed, first_quote, is_blank_byte, line_feeds_in,
+    Span, blanks_in, first_blank, first_line_feed, first_quote, is_blank_byte, line_feeds_in,
 };
 use crate::window::Window;
-use crate::word::{TEXT_LIMIT, WORD_LIMIT, Word, WordFault};
-use odb_base::Text;
+use crate::word::{TEXT_LIMIT, WORD_LIMIT, WordFault};
 use odb_outside::Source;
-use std::alloc::{AllocError, Global};
 
 /// What a read behind the bytes at hand gave.
 pub enum Fill {
@@ -36,19 +34,19 @@ pub struct Input<S> {
 impl<S: Source> Input<S> {
     ghost use Rattle.odb_outside.specs.Outside.{HasCause};
     ghost use Rattle.ld_words.specs.Cause.{HasReadCause, UnlessReadFault};
-    ghost use Rattle.ld_words.specs.Input.{BeginsComment, BeginsPlain, BeginsQuoted, ComesTo, Fills, GoesOn, HasWord, Moved, NextIs, Stays, reading_at};
+    ghost use Rattle.ld_words.specs.Input.{BeginsComment, BeginsPlain, BeginsQuoted, ComesTo, Fills, Finds, GoesOn, HasWord, Moved, Stays, reading_at};
     ghost use Rattle.ld_words.specs.Reading.{Between, Comment, is_blank, line_feeds};
     ghost use Rattle.ld_words.specs.Told.{SameIfTold, ShowsFault};
 
-    /// Uses up the first bytes at hand, which have so many line feeds.
-    fn advance(&mut self, count: usize, lines: usize)
-        requires count { count ≤ length self.old.window }
-        requires lines { lines ≤ count }
-        ensures { Moved self.old self.new count lines }
+    /// Uses up the first bytes at hand.
+    pub fn advance(&mut self, span: Span)
+        requires bytes { span.bytes ≤ length self.old.window }
+        requires lines { span.lines ≤ span.bytes }
+        ensures { Moved self.old self.new span.bytes span.lines }
     {
-        self.window.skip(count);
-        self.line += lines as u64;
-        self.taken += count as u64;
+        self.window.skip(span.bytes);
+        self.line += span.lines as u64;
+        self.taken += span.bytes as u64;
     }
 
     /// Reads behind the bytes at hand.
@@ -99,20 +97,11 @@ impl<S: Source> Input<S> {
     }
 
     /// Uses up the first bytes at hand, none of which ends a line.
-    fn pass(&mut self, count: usize)
-        requires { count ≤ length self.old.window }
-        ensures { Moved self.old self.new count 0 }
+    fn pass(&mut self, bytes: usize)
+        requires { bytes ≤ length self.old.window }
+        ensures { Moved self.old self.new bytes 0 }
     {
-        self.advance(count, 0);
-    }
-
-    /// Uses up the first bytes at hand with the ends of lines among them.
-    fn pass_lines(&mut self, count: usize)
-        requires { count ≤ length self.old.window }
-        ensures { Moved self.old self.new count (line_feeds (take count self.old.window)) }
-    {
-        let lines = line_feeds_in(&self.window.bytes()[..count]);
-        self.advance(count, lines);
+        self.advance(Span { bytes, lines: 0 });
     }
 
     /// Uses up the blanks at the front of the bytes at hand.
@@ -124,8 +113,8 @@ impl<S: Source> Input<S> {
             ≤ self.new.taken + length self.new.window }
         ensures source { self.new.source ≡ self.old.source }
     {
-        let count = blanks_in(self.window.bytes());
-        self.pass_lines(count);
+        let blanks = blanks_in(self.window.bytes());
+        self.advance(blanks);
     }
 
     /// Whether there are more bytes, which are then at hand.
@@ -300,28 +289,12 @@ impl<S: Source> Input<S> {
         }
     }
 
-    /// The first bytes at hand as a word, in its own memory.
-    fn word(&self, alloc: Global, count: usize) -> Result<Word, WordFault>
-        requires { count ≤ length self.now.window }
-        ensures word { IfOk result
-            (λ word. word ≡ record { bytes = take count self.now.window; line = self.now.line }) }
-        ensures memory { IfErr result (λ f. f ≡ WordFault.Memory) }
-    {
-        match Text::new(alloc, &self.window.bytes()[..count]) {
-            Ok(bytes) => Ok(Word {
-                bytes,
-                line: self.line,
-            }),
-            Err(AllocError) => Err(WordFault::Memory),
-        }
-    }
-
-    /// The next word, or none at the end of the text.
-    pub fn next(&mut self, alloc: Global) -> Result<Option<Word>, WordFault>
+    /// The next word, which is then at hand, or none at the end of the text.
+    pub fn find(&mut self) -> Result<Option<Span>, WordFault>
         requires ready { IsTrue (S.ready self.old.source) }
-        ensures word { IfOk result (NextIs S.left self.old self.new) }
+        ensures word { IfOk result (Finds S.left self.old self.new) }
         ensures fault { IfErr result (ShowsFault (reading_at S.left Between self.old)) }
-        ensures falls { IfOk result (λ o. OnSome o (self.old.taken < self.new.taken)) }
+        ensures taken { self.old.taken ≤ self.new.taken }
         ensures ready { UnlessReadFault result (IsTrue (S.ready self.new.source)) }
         ensures cause { HasReadCause (S.faults self.old.source) (S.faults self.new.source) result }
         ensures rest { S.rest self.new.source ≡ S.rest self.old.source }
@@ -329,16 +302,13 @@ impl<S: Source> Input<S> {
         match self.first_of_word()? {
             None => Ok(None),
             Some(b'"') => {
-                let count = self.quoted_length()?;
-                let word = self.word(alloc, count)?;
-                self.pass_lines(count);
-                Ok(Some(word))
+                let bytes = self.quoted_length()?;
+                let lines = line_feeds_in(&self.window.bytes()[..bytes]);
+                Ok(Some(Span { bytes, lines }))
             }
             Some(_) => {
-                let count = self.plain_length()?;
-                let word = self.word(alloc, count)?;
-                self.pass(count);
-                Ok(Some(word))
+                let bytes = self.plain_length()?;
+                Ok(Some(Span { bytes, lines: 0 }))
             }
         }
     }

@@ -8,7 +8,8 @@
 //! [`to_units`] is the whole number of units that is nearest to a decimal.
 //!
 //! A text is read in pieces of 16 KiB into one buffer of 80 KiB. Each byte is looked at a fixed number of
-//! times, and a word makes one allocation. A word has at most 65,535 bytes and a text fewer than 2^32.
+//! times. A word is lent where it stands in the buffer, or given in memory of its own, which is one allocation. A
+//! word has at most 65,535 bytes and a text fewer than 2^32.
 //! Nothing here knows keywords, names or forms of statements.
 #![tactic(auto)]
 
@@ -16,11 +17,12 @@ pub mod decimal;
 mod input;
 pub mod laws;
 mod scan;
+mod short_decimal;
 mod window;
 pub mod word;
 pub mod words;
 
-pub use decimal::{NumberFault, to_units};
+pub use decimal::{NumberFault, is_number, to_units};
 pub use laws::{lines_are_counted, rounding_is_nearest, spaced_words_are_read};
 pub use word::{Word, WordFault};
 pub use words::{Room, Words};

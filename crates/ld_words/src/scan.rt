@@ -1,4 +1,4 @@
-ghost use Rattle.std.specs.Prelude.{◌≡◌, ◌≤◌, length, not, position};
+ghost use Rattle.std.specs.Prelude.{◌≡◌, ◌≤◌, if◌then◌else◌, length, not, position, take};
 ghost use Rattle.std.specs.List.{position_or_len};
 ghost use Rattle.ld_words.specs.Reading.{is_blank, is_line_feed, is_quote, line_feeds};
 
@@ -9,22 +9,35 @@ pub fn is_blank_byte(byte: u8) -> bool
     byte == b' ' || byte == b'\t' || byte == b'\r' || byte == b'\n'
 }
 
-/// How many blanks stand before all other bytes.
-#[tactic(auto, using(crate::proofs::Places::position_none))]
-pub fn blanks_in(bytes: &[u8]) -> usize
-    ensures blanks { result ≡ position_or_len (λ b. not (is_blank b)) bytes.now }
-    ensures bound { result ≤ length bytes.now }
-{
-    match first_other(bytes) {
-        Some(at) => at,
-        None => bytes.len(),
-    }
+/// So many bytes, of which so many are line feeds.
+#[derive(Clone, Copy, Debug, PartialEq, Eq)]
+pub struct Span {
+    pub bytes: usize,
+    pub lines: usize,
 }
 
-fn first_other(bytes: &[u8]) -> Option<usize>
-    ensures { result ≡ position (λ b. not (is_blank b)) bytes.now }
+impl Span {
+    pub const NONE: Span = Span { bytes: 0, lines: 0 };
+}
+
+/// The blanks before all other bytes.
+pub fn blanks_in(bytes: &[u8]) -> Span
+    ensures blanks { result.bytes ≡ position_or_len (λ b. not (is_blank b)) bytes.now }
+    ensures lines { result.lines ≡ line_feeds (take result.bytes bytes.now) }
+    ensures bound { result.bytes ≤ length bytes.now }
+    ensures fewer { result.lines ≤ result.bytes }
 {
-    bytes.iter().position(|b| !is_blank_byte(*b))
+    let mut rest = bytes;
+    let mut blanks = Span::NONE;
+    'blanks: while let [byte, others @ ..] = rest {
+        if !is_blank_byte(*byte) {
+            return blanks;
+        }
+        blanks.bytes += 1;
+        blanks.lines += one_if(*byte == b'\n');
+        rest = others;
+    }
+    blanks
 }
 
 /// Where the first blank stands.
@@ -54,4 +67,11 @@ pub fn line_feeds_in(bytes: &[u8]) -> usize
     ensures bound { result ≤ length bytes.now }
 {
     bytes.iter().filter(|b| **b == b'\n').count()
+}
+
+pub fn one_if(test: bool) -> usize
+    ensures value { result ≡ (if test then 1 else 0) }
+    ensures bound { result ≤ 1 }
+{
+    if test { 1 } else { 0 }
 }

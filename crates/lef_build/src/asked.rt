@@ -2,6 +2,7 @@ ghost use Rattle.std.specs.Prelude.{◌≡◌, Some};
 ghost use Rattle.std.specs.List.{list_any};
 ghost use Rattle.lef_build.specs.Answers.{IsAsked};
 ghost use Rattle.lef_build.specs.Causes.{has_shapes as some_shapes, layer_states as states_of_layer, macro_states as states_of_macro, no_units, site_states as states_of_site, unknown_layer, unknown_layers, unknown_pin_layers, unknown_site};
+ghost use Rattle.tech.specs.Technology.{find_layer};
 
 use crate::builder::Builder;
 use crate::fault::BuildFault;
@@ -23,16 +24,23 @@ impl<'a> Builder<'a> {
     pub fn ask_layers(&self, shapes: &[LefShape]) -> Result<(), BuildFault>
         ensures { IsAsked (unknown_layers self.now.tech shapes.now) result }
     {
+        let mut last: &[u8] = &[];
+        let mut found = self.find_layer(last);
         for shape in shapes {
-            self.ask_layer(shape)?;
+            let name = shape.layer.bytes();
+            found = self.find_again(last, found, name);
+            last = name;
+            self.ask_found(found, shape)?;
         }
         Ok(())
     }
 
-    fn ask_layer(&self, shape: &LefShape) -> Result<(), BuildFault>
+    // The layer of a shape, which was found as this, is there.
+    fn ask_found(&self, found: Option<u32>, shape: &LefShape) -> Result<(), BuildFault>
+        requires { found ≡ find_layer self.now.tech shape.now.layer }
         ensures { IsAsked (unknown_layer self.now.tech shape.now) result }
     {
-        if self.find_layer(shape.layer.bytes()).is_some() {
+        if found.is_some() {
             return Ok(());
         }
         Err(BuildFault::UnknownLayer {

@@ -76,6 +76,18 @@ impl<'a> Builder<'a> {
         }
     }
 
+    /// The same, where the layer of another name was found as this. Most shapes are on the layer of the one before.
+    pub fn find_again(&self, last: &[u8], found: Option<u32>, name: &[u8]) -> Option<u32>
+        requires { found ≡ find_layer self.now.tech last.now }
+        ensures { result ≡ find_layer self.now.tech name.now }
+    {
+        if name == last {
+            found
+        } else {
+            self.find_layer(name)
+        }
+    }
+
     /// The identifier of the via of this name.
     pub fn find_via(&self, name: &[u8]) -> Option<u32>
         ensures { result ≡ find_via self.now.tech name.now }

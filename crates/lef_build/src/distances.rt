@@ -3,13 +3,14 @@ ghost use Rattle.lef_build.specs.Answers.{IsMade};
 ghost use Rattle.lef_build.specs.Distances.{distance_of, has_corners, in_units, is_distance, is_size, rect_of};
 
 use crate::fault::BuildFault;
+use ld_forms::ShortText;
 use ld_words::to_units;
 use lef_tree::LefRect;
-use odb_base::{Name, Rect, Text};
+use odb_base::{Name, Rect};
 
 /// A distance of the item of this name in database units, 0 where none is stated.
 #[tactic(auto, unfolding(crate::specs::Distances::is_distance, crate::specs::Distances::in_units))]
-pub fn distance(units: u32, name: &Name, stated: &Option<Text>) -> Result<i32, BuildFault>
+pub fn distance(units: u32, name: &Name, stated: &Option<ShortText>) -> Result<i32, BuildFault>
     ensures { IsMade name.now (is_distance units stated.now) (in_units units stated.now) result }
 {
     match stated {
@@ -20,7 +21,7 @@ pub fn distance(units: u32, name: &Name, stated: &Option<Text>) -> Result<i32, B
 
 /// The same where one is stated.
 #[tactic(auto, unfolding(crate::specs::Distances::is_distance, crate::specs::Distances::in_units))]
-pub fn coordinate(units: u32, name: &Name, word: &Text) -> Result<i32, BuildFault>
+pub fn coordinate(units: u32, name: &Name, word: &ShortText) -> Result<i32, BuildFault>
     ensures { IsMade name.now (is_distance units (Some word.now)) (in_units units (Some word.now)) result }
 {
     match number(units, word) {
@@ -29,7 +30,7 @@ pub fn coordinate(units: u32, name: &Name, word: &Text) -> Result<i32, BuildFaul
     }
 }
 
-fn number(units: u32, word: &Text) -> Option<i32>
+fn number(units: u32, word: &ShortText) -> Option<i32>
     ensures { result ≡ distance_of units (Some word.now) }
 {
     let number = to_units(word.bytes(), units).ok()?;
@@ -38,7 +39,7 @@ fn number(units: u32, word: &Text) -> Option<i32>
 
 /// A size of the item of this name: a distance that isn't negative.
 #[tactic(auto, unfolding(crate::specs::Distances::is_size))]
-pub fn size(units: u32, name: &Name, stated: &Option<Text>) -> Result<i32, BuildFault>
+pub fn size(units: u32, name: &Name, stated: &Option<ShortText>) -> Result<i32, BuildFault>
     ensures { IsMade name.now (is_size units stated.now) (in_units units stated.now) result }
 {
     let number = distance(units, name, stated)?;

@@ -2,7 +2,8 @@ ghost use Rattle.std.specs.Prelude.{◌≡◌, map};
 ghost use Rattle.lef_build.specs.Answers.{IsMade};
 ghost use Rattle.lef_build.specs.Distances.{has_corners};
 ghost use Rattle.lef_build.specs.Causes.{are_good_pins, are_good_shapes};
-ghost use Rattle.lef_build.specs.Stated.{layer_number, shape_of, shapes_of, terminal_of};
+ghost use Rattle.lef_build.specs.Stated.{shape_of, shapes_of, terminal_of};
+ghost use Rattle.tech.specs.Technology.{find_layer};
 
 use crate::builder::Builder;
 use crate::distances::rect;
@@ -17,26 +18,27 @@ impl<'a> Builder<'a> {
         ensures { IsMade name.now (are_good_shapes self.now.tech.units shapes.now) (shapes_of self.now.tech shapes.now) result }
     {
         let mut made = self.empty_list();
+        let mut last: &[u8] = &[];
+        let mut found = self.find_layer(last);
         for shape in shapes {
-            made.push(self.shape(name, shape)?)?;
+            let layer = shape.layer.bytes();
+            found = self.find_again(last, found, layer);
+            last = layer;
+            made.push(self.shape(name, found, shape)?)?;
         }
         Ok(made)
     }
 
-    fn shape(&self, name: &Name, shape: &LefShape) -> Result<Shape, BuildFault>
+    // A shape whose layer was found as this.
+    fn shape(&self, name: &Name, found: Option<u32>, shape: &LefShape) -> Result<Shape, BuildFault>
+        requires { found ≡ find_layer self.now.tech shape.now.layer }
         ensures { IsMade name.now (has_corners self.now.tech.units shape.now.rect) (shape_of self.now.tech shape.now) result }
     {
         let rect = rect(self.units(), name, &shape.rect)?;
         Ok(Shape {
-            layer: LayerId(self.layer_number(shape.layer.bytes())),
+            layer: LayerId(found.unwrap_or(0)),
             rect,
         })
-    }
-
-    fn layer_number(&self, name: &[u8]) -> u32
-        ensures { result ≡ layer_number self.now.tech name.now }
-    {
-        self.find_layer(name).unwrap_or(0)
     }
 
     /// The terminals of the macro of this name.

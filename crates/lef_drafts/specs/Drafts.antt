@@ -12,7 +12,7 @@ use Rattle.lef_forms.specs.declared.form.Section.TheVariants as section
 use Rattle.lef_forms.specs.declared.form.Statement.{Statement}
 use Rattle.lef_forms.specs.declared.form.Statement.TheVariants as statement
 use Rattle.lef_forms.specs.declared.keyword.Keyword.TheVariants as keyword
-use Rattle.lef_forms.specs.Keywords.{is, text_of}
+use Rattle.lef_forms.specs.Keywords.{is}
 use Rattle.lef_forms.specs.Numbers.{per_micron_in}
 use Rattle.lef_drafts.specs.declared.draft.Closed.{Closed}
 use Rattle.lef_drafts.specs.declared.draft.Closed.TheVariants as closed
@@ -27,8 +27,9 @@ use Rattle.lef_tree.specs.declared.tree.LefShape.{LefShape}
 use Rattle.lef_tree.specs.declared.tree.LefSite.{LefSite}
 use Rattle.lef_tree.specs.declared.tree.LefVia.{LefVia}
 use Rattle.lef_tree.specs.Pins.{has_pin}
-use Rattle.lef_values.specs.Values.{Words, has_word, joined, name_of, last_of_two, one_of, rect_of, rest_of, second_of, symmetries_of}
-use Rattle.lef_values.specs.Worded.{layer_direction_named, layer_type_named, pin_direction_named, pin_use_named, site_class_named}
+use Rattle.ld_forms.specs.Kept.{joined}
+use Rattle.lef_drafts.specs.Values.{Words, last_of_two, name_of, one_of, rect_of, second_of, symmetries_of}
+use Rattle.lef_drafts.specs.Worded.{layer_direction_named, layer_type_named, pin_direction_named, pin_use_named, site_class_named}
 
 -- ---- what isn't stated
 
@@ -87,9 +88,14 @@ abbrev pub opened_if_named : Statement → Bool → Option (List ℕ) → Draft
 opened_if_named s default None = draft.Top
 opened_if_named s default (Some name) = opened_with_name s default name
 
+-- the word is DEFAULT
+abbrev pub is_default : Option (List ℕ) → Bool
+is_default None = false
+is_default (Some word) = is keyword.Default word
+
 -- a name stands first, and behind it the words of a via
 abbrev pub opened_by_name : Statement → Words → Draft
-opened_by_name s values = opened_if_named s (has_word (text_of keyword.Default) (rest_of values)) (name_of values)
+opened_by_name s values = opened_if_named s (is_default (second_of values)) (name_of values)
 
 -- the section that a header opens
 unfoldable pub opened : Statement → Words → Draft
@@ -187,6 +193,13 @@ port_set s values body pin layer =
 abbrev pub obs_set : Statement → Words → LefMacro → Option (List ℕ) → Draft
 obs_set s values body layer =
     let next = shapes_set s values layer body.obstructions in draft.Obs (record body { obstructions = next.1 }) next.0
+
+-- what a section in which others open has with one more statement, or the section that the statement opens
+abbrev pub open_set : Statement → Words → Draft → Draft
+open_set s values draft.Top = opened s values
+open_set s values (draft.Macro body) = macro_set s values body
+open_set s values (draft.Pin body pin) = pin_set s values body pin
+open_set s values d = d
 
 -- what the open section has with one more statement, or the section that the statement opens
 unfoldable pub set : Statement → Words → Draft → Draft

@@ -1,15 +1,14 @@
-ghost use Rattle.std.specs.Prelude.{◌≡◌, IfOk};
-ghost use Rattle.lef_drafts.specs.Drafts.{close, closes, ends_bare, lacks_layer, section_of, set, with_pin};
+ghost use Rattle.std.specs.Prelude.{◌≡◌, IfOk, OnOk};
+ghost use Rattle.lef_drafts.specs.Drafts.{close, closes, ends_bare, lacks_layer, open_set, section_of, set, with_pin};
 
 use crate::opening::opened;
-use crate::setting::{
-    layer_with, macro_with, obs_with, pin_with, port_with, site_with, units_with, via_with,
-};
+use crate::setting::{draw, macro_with, pin_with, state_layer, state_site, units_with};
+use ld_forms::Kept;
 use lef_forms::{Keyword, Section, Statement};
 use lef_tree::{LefItem, LefLayer, LefMacro, LefPin, LefSite, LefVia};
-use lef_values::Values;
 use odb_base::Name;
 use std::alloc::{AllocError, Global};
+use std::mem;
 
 /// The section that is open and what it has so far. Of shapes, `layer` is the last one that was named.
 #[derive(Drop)]
@@ -112,28 +111,58 @@ impl Draft {
         }
     }
 
-    /// What the section has with one more statement, or the section that the statement opens.
+    /// Puts what a statement says into the section, or the section that the statement opens in its place.
     #[tactic(auto, unfolding(crate::specs::Drafts::set))]
     pub fn set(
-        self,
+        &mut self,
         alloc: Global,
         statement: Statement,
-        values: Values,
-    ) -> Result<Draft, AllocError>
-        ensures { IfOk result (λ draft. draft ≡ set statement values self) }
+        values: &Kept,
+    ) -> Result<(), AllocError>
+        ensures { OnOk result (self.new ≡ set statement values.now self.old) }
+    {
+        match self {
+            Draft::Top => self.open(alloc, statement, values),
+            Draft::Units(units) => {
+                *units = units_with(statement, values, *units);
+                Ok(())
+            }
+            Draft::Layer(layer) => state_layer(alloc, statement, values, layer),
+            Draft::Via { via, layer } => draw(alloc, statement, values, layer, &mut via.shapes),
+            Draft::Site(site) => state_site(alloc, statement, values, site),
+            Draft::Macro(_) => self.open(alloc, statement, values),
+            Draft::Pin { .. } => self.open(alloc, statement, values),
+            Draft::Port { pin, layer, .. } => {
+                draw(alloc, statement, values, layer, &mut pin.shapes)
+            }
+            Draft::Obs { body, layer } => {
+                draw(alloc, statement, values, layer, &mut body.obstructions)
+            }
+        }
+    }
+
+    // The same of sections in which others open.
+    fn open(&mut self, alloc: Global, statement: Statement, values: &Kept) -> Result<(), AllocError>
+        ensures { OnOk result (self.new ≡ open_set statement values.now self.old) }
+    {
+        let draft = mem::replace(self, Draft::Top).opened(alloc, statement, values)?;
+        drop(mem::replace(self, draft));
+        Ok(())
+    }
+
+    fn opened(self, alloc: Global, statement: Statement, values: &Kept) -> Result<Draft, AllocError>
+        ensures { IfOk result (λ draft. draft ≡ open_set statement values.now self) }
     {
         match self {
             Draft::Top => opened(alloc, statement, values),
-            Draft::Units(units) => Ok(Draft::Units(units_with(statement, values, units))),
-            Draft::Layer(layer) => Ok(Draft::Layer(layer_with(statement, values, layer)?)),
-            Draft::Via { via, layer } => via_with(alloc, statement, values, via, layer),
-            Draft::Site(site) => Ok(Draft::Site(site_with(statement, values, site))),
             Draft::Macro(body) => macro_with(alloc, statement, values, body),
             Draft::Pin { body, pin } => Ok(pin_with(statement, values, body, pin)),
-            Draft::Port { body, pin, layer } => {
-                port_with(alloc, statement, values, body, pin, layer)
-            }
-            Draft::Obs { body, layer } => obs_with(alloc, statement, values, body, layer),
+            Draft::Units(units) => Ok(Draft::Units(units)),
+            Draft::Layer(layer) => Ok(Draft::Layer(layer)),
+            Draft::Via { via, layer } => Ok(Draft::Via { via, layer }),
+            Draft::Site(site) => Ok(Draft::Site(site)),
+            Draft::Port { body, pin, layer } => Ok(Draft::Port { body, pin, layer }),
+            Draft::Obs { body, layer } => Ok(Draft::Obs { body, layer }),
         }
     }
 

@@ -5,16 +5,19 @@
 //! statement begins. [`Draft::close`] gives what the end of the section makes of it: an item of the text, or
 //! the section around it. Which word ends it, [`Draft::closes`] and [`Draft::ends_bare`] say.
 //!
-//! In the model both are [functions of what the section has](../specs/Drafts.antt). Of a want of memory nothing is
-//! said but that there is no draft then.
+//! In the model both are [functions of what the section has](../specs/Drafts.antt), by
+//! [what the words of a statement say](../specs/Values.antt): numbers and names by their places, two corners as a
+//! rectangle, all words as one text, the symmetries that are among them, and [what they name](../specs/Worded.antt).
+//! Where too few words are kept, there is no value. Of a want of memory nothing is said but that there is no draft then.
 //!
 //! A statement takes a time that doesn't grow with what the section has, and a pin that ends is found among the
-//! pins of its macro by its name. What is stated is moved; only names, and the layer of each rectangle, are
-//! copied. Nothing here reads a word that has no place to be kept in.
+//! pins of its macro by its name. What a section has changes in its place, and only what the tree keeps is copied.
 #![tactic(auto)]
 
 pub mod draft;
 mod opening;
 mod setting;
+mod values;
+mod worded;
 
 pub use draft::{Closed, Draft};

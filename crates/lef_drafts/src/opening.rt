@@ -1,17 +1,19 @@
 ghost use Rattle.std.specs.Prelude.{◌≡◌, IfOk};
-ghost use Rattle.lef_drafts.specs.Drafts.{new_layer, new_macro, new_pin, new_site, new_via, opened, opened_by_name, opened_with_name};
+ghost use Rattle.lef_drafts.specs.Drafts.{is_default, new_layer, new_macro, new_pin, new_site, new_via, opened, opened_by_name, opened_with_name};
+ghost use Rattle.lef_drafts.specs.Values.{second_of};
 
 use crate::draft::Draft;
+use crate::values::name;
+use ld_forms::Kept;
 use lef_forms::{Keyword, Statement};
 use lef_tree::{LefLayer, LefMacro, LefPin, LefPins, LefSite, LefVia};
-use lef_values::{Values, name_of_word};
 use odb_base::{Direction, LayerDirection, LayerType, List, Name, SiteClass, Text, Usage};
 use std::alloc::{AllocError, Global};
 
 /// The section that a header at the top opens.
 #[tactic(auto, unfolding(crate::specs::Drafts::opened))]
-pub fn opened(alloc: Global, statement: Statement, values: Values) -> Result<Draft, AllocError>
-    ensures { IfOk result (λ draft. draft ≡ opened statement values) }
+pub fn opened(alloc: Global, statement: Statement, values: &Kept) -> Result<Draft, AllocError>
+    ensures { IfOk result (λ draft. draft ≡ opened statement values.now) }
 {
     match statement {
         Statement::Units => Ok(Draft::Units(None)),
@@ -20,17 +22,23 @@ pub fn opened(alloc: Global, statement: Statement, values: Values) -> Result<Dra
 }
 
 // The same of a header that has a name.
-fn opened_by_name(alloc: Global, statement: Statement, values: Values) -> Result<Draft, AllocError>
-    ensures { IfOk result (λ draft. draft ≡ opened_by_name statement values) }
+fn opened_by_name(alloc: Global, statement: Statement, values: &Kept) -> Result<Draft, AllocError>
+    ensures { IfOk result (λ draft. draft ≡ opened_by_name statement values.now) }
 {
-    let mut values = values;
-    let Some(word) = values.take() else {
-        return Ok(Draft::Top);
-    };
-    let default = values.has(Keyword::Default.text());
-    match name_of_word(alloc, word.bytes())? {
+    let default = has_default(values);
+    match name(alloc, values)? {
         Some(name) => Ok(opened_with_name(alloc, statement, default, name)),
         None => Ok(Draft::Top),
+    }
+}
+
+// Whether DEFAULT stands behind the name.
+fn has_default(values: &Kept) -> bool
+    ensures { result ≡ is_default (second_of values.now) }
+{
+    match values.get(1) {
+        Some(word) => Keyword::Default.is(word),
+        None => false,
     }
 }
 

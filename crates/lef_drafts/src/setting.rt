@@ -1,106 +1,75 @@
 ghost use Rattle.std.specs.Prelude.{◌≡◌, IfOk, OnOk};
-ghost use Rattle.lef_drafts.specs.Drafts.{kept_first, layer_set, macro_set, macro_stated, obs_set, pin_opened, pin_set, port_set, shapes_set, site_set, units_set, via_set, with_rect};
+ghost use Rattle.lef_drafts.specs.Drafts.{layer_set, macro_set, macro_stated, pin_opened, pin_set, shapes_set, site_set, units_set, with_rect};
 
 use crate::draft::Draft;
 use crate::opening::new_pin;
-use lef_forms::{Statement, per_micron_of};
-use lef_tree::{LefLayer, LefMacro, LefPin, LefShape, LefSite, LefVia};
-use lef_values::{
-    Values, layer_direction_named, layer_type_named, pin_direction_named, pin_use_named,
-    site_class_named,
+use crate::values::{name, one_or_two, rect, symmetries, two, word};
+use crate::worded::{
+    layer_direction_named, layer_type_named, pin_direction_named, pin_use_named, site_class_named,
 };
+use ld_forms::Kept;
+use lef_forms::{Statement, per_micron_of};
+use lef_tree::{LefLayer, LefMacro, LefPin, LefShape, LefSite};
 use odb_base::{List, Name};
 use std::alloc::{AllocError, Global};
 
 /// The units that are stated with one more statement.
 #[tactic(auto, unfolding(crate::specs::Drafts::units_set))]
-pub fn units_with(statement: Statement, values: Values, units: Option<u32>) -> Option<u32>
-    ensures { result ≡ units_set statement values units }
+pub fn units_with(statement: Statement, values: &Kept, units: Option<u32>) -> Option<u32>
+    ensures { result ≡ units_set statement values.now units }
 {
     match statement {
-        Statement::Database => match values.one() {
-            Some(word) => per_micron_of(word.bytes()),
+        Statement::Database => match values.get(0) {
+            Some(word) => per_micron_of(word),
             None => None,
         },
         _ => units,
     }
 }
 
-/// A layer with one more statement.
+/// Puts what a statement says into its layer.
 #[tactic(auto, unfolding(crate::specs::Drafts::layer_set))]
-pub fn layer_with(
+pub fn state_layer(
+    alloc: Global,
     statement: Statement,
-    values: Values,
-    layer: LefLayer,
-) -> Result<LefLayer, AllocError>
-    ensures { IfOk result (λ next. next ≡ layer_set statement values layer) }
+    values: &Kept,
+    layer: &mut LefLayer,
+) -> Result<(), AllocError>
+    ensures { OnOk result (layer.new ≡ layer_set statement values.now layer.old) }
 {
     match statement {
-        Statement::LayerType => Ok(LefLayer {
-            sort: layer_type_named(values),
-            ..layer
-        }),
-        Statement::LayerDirection => Ok(LefLayer {
-            direction: layer_direction_named(values),
-            ..layer
-        }),
-        Statement::Pitch => match values.one_or_two() {
-            Ok((pitch_x, pitch_y)) => Ok(LefLayer {
-                pitch_x,
-                pitch_y,
-                ..layer
-            }),
-            Err(fault) => {
-                drop(layer);
-                Err(fault)
-            }
-        },
-        Statement::Width => Ok(LefLayer {
-            width: values.one(),
-            ..layer
-        }),
+        Statement::LayerType => layer.sort = layer_type_named(values),
+        Statement::LayerDirection => layer.direction = layer_direction_named(values),
+        Statement::Pitch => (layer.pitch_x, layer.pitch_y) = one_or_two(alloc, values)?,
+        Statement::Width => layer.width = word(alloc, values, 0)?,
         Statement::Spacing => {
-            let spacing = kept_first(layer.spacing, values.one());
-            Ok(LefLayer { spacing, ..layer })
-        }
-        _ => Ok(layer),
-    }
-}
-
-// The first of two that is there.
-fn kept_first<T: Drop>(first: Option<T>, second: Option<T>) -> Option<T>
-    ensures { result ≡ kept_first first second }
-{
-    match first {
-        Some(first) => Some(first),
-        None => second,
-    }
-}
-
-/// A site with one more statement.
-#[tactic(auto, unfolding(crate::specs::Drafts::site_set))]
-pub fn site_with(statement: Statement, values: Values, site: LefSite) -> LefSite
-    ensures { result ≡ site_set statement values site }
-{
-    match statement {
-        Statement::SiteClass => LefSite {
-            class: site_class_named(values),
-            ..site
-        },
-        Statement::Symmetry => LefSite {
-            symmetry: values.symmetries(),
-            ..site
-        },
-        Statement::Size => {
-            let (width, height) = values.two();
-            LefSite {
-                width,
-                height,
-                ..site
+            let spacing = word(alloc, values, 0)?;
+            if layer.spacing.is_none() {
+                layer.spacing = spacing;
             }
         }
-        _ => site,
+        _ => {}
     }
+    Ok(())
+}
+
+/// Puts what a statement says into its site.
+#[tactic(auto, unfolding(crate::specs::Drafts::site_set))]
+pub fn state_site(
+    alloc: Global,
+    statement: Statement,
+    values: &Kept,
+    site: &mut LefSite,
+) -> Result<(), AllocError>
+    ensures { OnOk result (site.new ≡ site_set statement values.now site.old) }
+{
+    match statement {
+        Statement::SiteClass => site.class = site_class_named(values),
+        Statement::Symmetry => site.symmetry = symmetries(values),
+        Statement::Size => (site.width, site.height) = two(alloc, values)?,
+        _ => {}
+    }
+    Ok(())
 }
 
 /// A macro with one more statement, or the section in it that the statement opens.
@@ -108,10 +77,10 @@ pub fn site_with(statement: Statement, values: Values, site: LefSite) -> LefSite
 pub fn macro_with(
     alloc: Global,
     statement: Statement,
-    values: Values,
+    values: &Kept,
     body: LefMacro,
 ) -> Result<Draft, AllocError>
-    ensures { IfOk result (λ draft. draft ≡ macro_set statement values body) }
+    ensures { IfOk result (λ draft. draft ≡ macro_set statement values.now body) }
 {
     match statement {
         Statement::Pin => pin_opened(alloc, values, body),
@@ -121,10 +90,10 @@ pub fn macro_with(
 }
 
 // A macro in which a pin is open.
-fn pin_opened(alloc: Global, values: Values, body: LefMacro) -> Result<Draft, AllocError>
-    ensures { IfOk result (λ draft. draft ≡ pin_opened values body) }
+fn pin_opened(alloc: Global, values: &Kept, body: LefMacro) -> Result<Draft, AllocError>
+    ensures { IfOk result (λ draft. draft ≡ pin_opened values.now body) }
 {
-    match values.name(alloc) {
+    match name(alloc, values) {
         Ok(Some(name)) => Ok(Draft::Pin {
             body,
             pin: new_pin(alloc, name),
@@ -141,10 +110,10 @@ fn pin_opened(alloc: Global, values: Values, body: LefMacro) -> Result<Draft, Al
 fn macro_stated(
     alloc: Global,
     statement: Statement,
-    values: Values,
+    values: &Kept,
     mut body: LefMacro,
 ) -> Result<Draft, AllocError>
-    ensures { IfOk result (λ draft. draft ≡ Draft.Macro (macro_stated statement values body)) }
+    ensures { IfOk result (λ draft. draft ≡ Draft.Macro (macro_stated statement values.now body)) }
 {
     match state(alloc, statement, values, &mut body) {
         Ok(()) => Ok(Draft::Macro(body)),
@@ -159,19 +128,19 @@ fn macro_stated(
 fn state(
     alloc: Global,
     statement: Statement,
-    values: Values,
+    values: &Kept,
     body: &mut LefMacro,
 ) -> Result<(), AllocError>
-    ensures { OnOk result (body.new ≡ macro_stated statement values body.old) }
+    ensures { OnOk result (body.new ≡ macro_stated statement values.now body.old) }
 {
     match statement {
         Statement::MacroClass => body.class = values.joined(alloc)?,
         Statement::Foreign => body.foreign = values.joined(alloc)?,
-        Statement::Origin => (body.origin_x, body.origin_y) = values.two(),
-        Statement::Size => (body.width, body.height) = values.two(),
-        Statement::Symmetry => body.symmetry = values.symmetries(),
+        Statement::Origin => (body.origin_x, body.origin_y) = two(alloc, values)?,
+        Statement::Size => (body.width, body.height) = two(alloc, values)?,
+        Statement::Symmetry => body.symmetry = symmetries(values),
         Statement::MacroSite => {
-            let name = values.name(alloc)?;
+            let name = name(alloc, values)?;
             if body.site.is_none() {
                 body.site = name;
             }
@@ -183,8 +152,8 @@ fn state(
 
 /// A pin with one more statement, or the port in it that the statement opens.
 #[tactic(auto, unfolding(crate::specs::Drafts::pin_set))]
-pub fn pin_with(statement: Statement, values: Values, body: LefMacro, pin: LefPin) -> Draft
-    ensures { result ≡ pin_set statement values body pin }
+pub fn pin_with(statement: Statement, values: &Kept, body: LefMacro, pin: LefPin) -> Draft
+    ensures { result ≡ pin_set statement values.now body pin }
 {
     match statement {
         Statement::PinDirection => Draft::Pin {
@@ -210,75 +179,21 @@ pub fn pin_with(statement: Statement, values: Values, body: LefMacro, pin: LefPi
     }
 }
 
-/// A via with one more statement.
-pub fn via_with(
-    alloc: Global,
-    statement: Statement,
-    values: Values,
-    mut via: LefVia,
-    mut layer: Option<Name>,
-) -> Result<Draft, AllocError>
-    ensures { IfOk result (λ draft. draft ≡ via_set statement values via layer) }
-{
-    draw(alloc, statement, values, &mut layer, &mut via.shapes)?;
-    Ok(Draft::Via { via, layer })
-}
-
-/// A port with one more statement.
-pub fn port_with(
-    alloc: Global,
-    statement: Statement,
-    values: Values,
-    body: LefMacro,
-    mut pin: LefPin,
-    mut layer: Option<Name>,
-) -> Result<Draft, AllocError>
-    ensures { IfOk result (λ draft. draft ≡ port_set statement values body pin layer) }
-{
-    match draw(alloc, statement, values, &mut layer, &mut pin.shapes) {
-        Ok(()) => Ok(Draft::Port { body, pin, layer }),
-        Err(fault) => {
-            drop(body);
-            drop(pin);
-            Err(fault)
-        }
-    }
-}
-
-/// The obstructions of a macro with one more statement.
-pub fn obs_with(
-    alloc: Global,
-    statement: Statement,
-    values: Values,
-    mut body: LefMacro,
-    mut layer: Option<Name>,
-) -> Result<Draft, AllocError>
-    ensures { IfOk result (λ draft. draft ≡ obs_set statement values body layer) }
-{
-    match draw(alloc, statement, values, &mut layer, &mut body.obstructions) {
-        Ok(()) => Ok(Draft::Obs { body, layer }),
-        Err(fault) => {
-            drop(body);
-            Err(fault)
-        }
-    }
-}
-
-// Puts what a statement says of shapes behind them, or the layer that it names in the place of the last.
+/// Puts what a statement says of shapes behind them, or the layer that it names in the place of the last.
 #[tactic(auto, unfolding(crate::specs::Drafts::shapes_set))]
-fn draw(
+pub fn draw(
     alloc: Global,
     statement: Statement,
-    values: Values,
+    values: &Kept,
     layer: &mut Option<Name>,
     shapes: &mut List<LefShape>,
 ) -> Result<(), AllocError>
-    ensures layer { OnOk result (layer.new ≡ (shapes_set statement values layer.old shapes.old).0) }
-    ensures shapes { OnOk result (shapes.new ≡ (shapes_set statement values layer.old shapes.old).1) }
+    ensures layer { OnOk result (layer.new ≡ (shapes_set statement values.now layer.old shapes.old).0) }
+    ensures shapes { OnOk result (shapes.new ≡ (shapes_set statement values.now layer.old shapes.old).1) }
 {
     match statement {
-        Statement::ViaLayer | Statement::ShapeLayer => *layer = values.name(alloc)?,
-        Statement::Rect => draw_rect(values, layer, shapes)?,
+        Statement::ViaLayer | Statement::ShapeLayer => *layer = name(alloc, values)?,
+        Statement::Rect => draw_rect(alloc, values, layer, shapes)?,
         _ => {}
     }
     Ok(())
@@ -286,16 +201,17 @@ fn draw(
 
 // Puts a rectangle on the layer behind the shapes.
 fn draw_rect(
-    values: Values,
+    alloc: Global,
+    values: &Kept,
     layer: &Option<Name>,
     shapes: &mut List<LefShape>,
 ) -> Result<(), AllocError>
-    ensures { OnOk result (shapes.new ≡ with_rect values layer.now shapes.old) }
+    ensures { OnOk result (shapes.new ≡ with_rect values.now layer.now shapes.old) }
 {
     let Some(layer) = layer else {
         return Ok(());
     };
-    let Some(rect) = values.rect() else {
+    let Some(rect) = rect(alloc, values)? else {
         return Ok(());
     };
     let layer = layer.try_clone()?;

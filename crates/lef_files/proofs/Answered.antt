@@ -5,8 +5,8 @@ use Rattle.ld_words.specs.declared.word.WordFault.{WordFault}
 use Rattle.ld_words.specs.declared.word.WordFault.TheVariants as word
 use Rattle.ld_words.specs.Cause.{is_read_fault}
 use Rattle.ld_words.specs.Reading.{words_of}
-use Rattle.lef_reader.specs.declared.fault.LefFault.TheVariants as fault
-use Rattle.lef_reader.specs.Answers.{IsAnswer, IsKept}
+use Rattle.ld_reader.specs.declared.fault.TextFault.TheVariants as fault
+use Rattle.ld_reader.specs.Answers.{IsAnswer, IsKept}
 use Rattle.lef_reader.specs.Reading.{Answer, lef_of}
 use Rattle.odb_outside.specs.Adapters.{is_reading}
 use Rattle.odb_outside.specs.declared.shelf.Hand.{Hand}

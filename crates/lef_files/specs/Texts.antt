@@ -4,9 +4,9 @@ use Rattle.std.specs.Result.{result_unwrap_or}
 use Rattle.ld_words.specs.declared.word.WordFault.{WordFault}
 use Rattle.ld_words.specs.declared.word.WordFault.TheVariants as word
 use Rattle.ld_words.specs.Reading.{words_of}
-use Rattle.lef_reader.specs.declared.fault.LefFault.TheVariants as fault
-use Rattle.lef_reader.specs.declared.fault.LefKind.{LefKind}
-use Rattle.lef_reader.specs.declared.fault.LefKind.TheVariants as found
+use Rattle.ld_reader.specs.declared.fault.TextFault.TheVariants as fault
+use Rattle.lef_forms.specs.declared.kind.LefKind.{LefKind}
+use Rattle.lef_forms.specs.declared.kind.LefKind.TheVariants as found
 use Rattle.lef_reader.specs.Reading.{Answer, lef_of}
 use Rattle.shelf_files.specs.declared.fault.FileFault.{FileFault}
 use Rattle.shelf_files.specs.declared.fault.FileFault.TheVariants as failure

@@ -50,7 +50,6 @@ text_of keyword.Output = codes "OUTPUT"
 text_of keyword.Tristate = codes "TRISTATE"
 text_of keyword.Use = codes "USE"
 text_of keyword.Port = codes "PORT"
-text_of keyword.Semicolon = codes ";"
 
 -- whether these bytes are the word
 unfoldable pub is : Keyword → List ℕ → Bool

@@ -1,5 +1,5 @@
 -- The words that a place may take, and what they name.
-use Rattle.std.specs.Prelude.{Bool, List, [], ◌∷◌, ℕ, Option, is_some, not}
+use Rattle.std.specs.Prelude.{◌||◌, Bool, List, [], ◌∷◌, ℕ, Option, is_some, not}
 use Rattle.std.specs.List.{find}
 use Rattle.std.specs.Str.{bytes_eq}
 use Rattle.odb_base.specs.declared.codes.direction.Direction.{Direction}
@@ -22,6 +22,7 @@ use Rattle.lef_forms.specs.declared.symmetry.Symmetry.TheVariants as symmetry
 use Rattle.lef_forms.specs.declared.keyword.Keyword.TheVariants as keyword
 use Rattle.lef_forms.specs.declared.word_set.WordSet.{WordSet}
 use Rattle.lef_forms.specs.declared.word_set.WordSet.TheVariants as set
+use Rattle.ld_forms.specs.Places.{is_semicolon}
 use Rattle.lef_forms.specs.Keywords.{is}
 use Rattle.lef_forms.specs.Symmetry.{symmetry_word}
 
@@ -53,6 +54,10 @@ direction_in word = named direction_word (direction.Input ∷ direction.Inout �
 unfoldable pub usage_in : List ℕ → Option Usage
 usage_in word = named usage_word (usage.Signal ∷ usage.Analog ∷ usage.Power ∷ usage.Ground ∷ usage.Clock ∷ usage.Reset ∷ usage.Scan ∷ usage.TieOff ∷ []) word
 
+-- the third word of a longer current density, or the first word of a further statement of it
+unfoldable pub is_density_word : List ℕ → Bool
+is_density_word word = is keyword.Frequency word || is keyword.Width word || is keyword.CutArea word
+
 -- the word is in the set
 unfoldable pub has : WordSet → List ℕ → Bool
 has set.LayerType word = is_some (layer_type_in word)
@@ -61,4 +66,5 @@ has set.SiteClass word = is_some (site_class_in word)
 has set.Symmetry word = is_some (symmetry_in word)
 has set.PinDirection word = is_some (direction_in word)
 has set.PinUse word = is_some (usage_in word)
-has set.Any word = not (is keyword.Semicolon word)
+has set.Density word = is_density_word word
+has set.Any word = not (is_semicolon word)

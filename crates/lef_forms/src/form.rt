@@ -1,9 +1,10 @@
 ghost use Rattle.std.specs.Prelude.{◌≡◌};
 ghost use Rattle.lef_forms.specs.Forms.{form_in, form_of, places_of, rows_of};
 
+use crate::class::Class;
 use crate::keyword::Keyword;
-use crate::place::Place;
 use crate::word_set::WordSet;
+use ld_forms::{Extent, Place};
 
 /// A part of a LEF text that has statements of its own.
 #[derive(Clone, Copy, Debug, PartialEq, Eq)]
@@ -84,32 +85,17 @@ pub enum Statement {
     PinUse,
     /// `PORT`
     Port,
-}
-
-/// How far a part is passed over.
-#[derive(Clone, Copy, Debug, PartialEq, Eq)]
-pub enum Extent {
-    /// Through its `;`.
-    Statement,
-    /// Through `ENDEXT`.
-    Extension,
-    /// Through `END`.
+    /// `END`, of a section that it ends alone.
+    EndAlone,
+    /// `END name`
     End,
-    /// Through `END` and this word.
-    EndOf(Keyword),
-    /// Through `END` and the word that stands behind its first one.
-    EndOfName,
-    /// Through its `;`, and where its third word is `FREQUENCY`, `WIDTH` or `CUTAREA` through the statements
-    /// directly behind it that begin with one of these or with `TABLEENTRIES`, up to the first that begins with
-    /// `TABLEENTRIES`.
-    CurrentDensity,
 }
 
 /// What a first word begins.
 #[derive(Clone, Copy, Debug, PartialEq, Eq)]
 pub enum Form {
     Taken(Statement),
-    Passed(Extent),
+    Passed(Extent<Class>),
 }
 
 impl Section {
@@ -126,15 +112,30 @@ impl Section {
                 (Keyword::Macro, Form::Taken(Statement::Macro)),
                 (
                     Keyword::PropertyDefinitions,
-                    Form::Passed(Extent::EndOf(Keyword::PropertyDefinitions)),
+                    Form::Passed(Extent::Words(
+                        Class::Word(Keyword::End),
+                        Class::Word(Keyword::PropertyDefinitions),
+                    )),
                 ),
                 (
                     Keyword::Spacing,
-                    Form::Passed(Extent::EndOf(Keyword::Spacing)),
+                    Form::Passed(Extent::Words(
+                        Class::Word(Keyword::End),
+                        Class::Word(Keyword::Spacing),
+                    )),
                 ),
-                (Keyword::ViaRule, Form::Passed(Extent::EndOfName)),
-                (Keyword::NonDefaultRule, Form::Passed(Extent::EndOfName)),
-                (Keyword::Array, Form::Passed(Extent::EndOfName)),
+                (
+                    Keyword::ViaRule,
+                    Form::Passed(Extent::Named(Class::Word(Keyword::End))),
+                ),
+                (
+                    Keyword::NonDefaultRule,
+                    Form::Passed(Extent::Named(Class::Word(Keyword::End))),
+                ),
+                (
+                    Keyword::Array,
+                    Form::Passed(Extent::Named(Class::Word(Keyword::End))),
+                ),
             ],
             Section::Units => &[(Keyword::Database, Form::Taken(Statement::Database))],
             Section::Layer => &[
@@ -145,11 +146,17 @@ impl Section {
                 (Keyword::Spacing, Form::Taken(Statement::Spacing)),
                 (
                     Keyword::AcCurrentDensity,
-                    Form::Passed(Extent::CurrentDensity),
+                    Form::Passed(Extent::Statements(
+                        Class::OneOf(WordSet::Density),
+                        Class::Word(Keyword::TableEntries),
+                    )),
                 ),
                 (
                     Keyword::DcCurrentDensity,
-                    Form::Passed(Extent::CurrentDensity),
+                    Form::Passed(Extent::Statements(
+                        Class::OneOf(WordSet::Density),
+                        Class::Word(Keyword::TableEntries),
+                    )),
                 ),
             ],
             Section::Via => &[
@@ -170,10 +177,16 @@ impl Section {
                 (Keyword::Site, Form::Taken(Statement::MacroSite)),
                 (Keyword::Pin, Form::Taken(Statement::Pin)),
                 (Keyword::Obs, Form::Taken(Statement::Obs)),
-                (Keyword::Density, Form::Passed(Extent::End)),
+                (
+                    Keyword::Density,
+                    Form::Passed(Extent::Word(Class::Word(Keyword::End))),
+                ),
                 (
                     Keyword::Timing,
-                    Form::Passed(Extent::EndOf(Keyword::Timing)),
+                    Form::Passed(Extent::Words(
+                        Class::Word(Keyword::End),
+                        Class::Word(Keyword::Timing),
+                    )),
                 ),
             ],
             Section::Pin => &[
@@ -198,7 +211,7 @@ impl Section {
         ensures { result ≡ form_of self word.now }
     {
         if Keyword::BeginExt.is(word) {
-            return Some(Form::Passed(Extent::Extension));
+            return Some(Form::Passed(Extent::Word(Class::Word(Keyword::EndExt))));
         }
         form_among(self.rows(), word)
     }
@@ -217,72 +230,89 @@ fn form_among(rows: &[(Keyword, Form)], word: &[u8]) -> Option<Form>
 
 impl Statement {
     /// The places of the form behind the first word.
-    pub fn places(self) -> &'static [Place]
+    pub fn places(self) -> &'static [Place<Class>]
         ensures { result.now ≡ places_of self }
     {
         match self {
             Statement::Units => &[],
-            Statement::Layer => &[Place::Name],
+            Statement::Layer => &[Place::One(Class::Name)],
             Statement::Via => &[
-                Place::ViaName,
-                Place::Maybe(Keyword::Default),
-                Place::Maybe(Keyword::Generated),
-                Place::Maybe(Keyword::TopOfStackOnly),
+                Place::One(Class::ViaName),
+                Place::Maybe(Class::Word(Keyword::Default)),
+                Place::Maybe(Class::Word(Keyword::Generated)),
+                Place::Maybe(Class::Word(Keyword::TopOfStackOnly)),
             ],
-            Statement::Site => &[Place::Name],
-            Statement::Macro => &[Place::Name],
-            Statement::Database => &[Place::Key(Keyword::Microns), Place::PerMicron, Place::End],
-            Statement::LayerType => &[Place::OneOf(WordSet::LayerType), Place::End],
-            Statement::LayerDirection => &[Place::OneOf(WordSet::LayerDirection), Place::End],
-            Statement::Pitch => &[Place::Number, Place::MaybeNumber, Place::End],
-            Statement::Width => &[Place::Number, Place::End],
-            Statement::Spacing => &[Place::Number, Place::Through],
-            Statement::ViaLayer => &[Place::Name, Place::End],
-            Statement::ShapeLayer => &[Place::Name, Place::Through],
-            Statement::Rect => &[
-                Place::Group(Keyword::Mask, 1),
-                Place::Number,
-                Place::Number,
-                Place::Number,
-                Place::Number,
-                Place::Number,
+            Statement::Site => &[Place::One(Class::Name)],
+            Statement::Macro => &[Place::One(Class::Name)],
+            Statement::Database => &[
+                Place::Key(Class::Word(Keyword::Microns)),
+                Place::One(Class::PerMicron),
                 Place::End,
             ],
-            Statement::SiteClass => &[Place::OneOf(WordSet::SiteClass), Place::End],
+            Statement::LayerType => &[Place::One(Class::OneOf(WordSet::LayerType)), Place::End],
+            Statement::LayerDirection => &[
+                Place::One(Class::OneOf(WordSet::LayerDirection)),
+                Place::End,
+            ],
+            Statement::Pitch => &[
+                Place::One(Class::Number),
+                Place::Maybe(Class::Number),
+                Place::End,
+            ],
+            Statement::Width => &[Place::One(Class::Number), Place::End],
+            Statement::Spacing => &[Place::One(Class::Number), Place::Through],
+            Statement::ViaLayer => &[Place::One(Class::Name), Place::End],
+            Statement::ShapeLayer => &[Place::One(Class::Name), Place::Through],
+            Statement::Rect => &[
+                Place::Group(Class::Word(Keyword::Mask), 1),
+                Place::One(Class::Number),
+                Place::One(Class::Number),
+                Place::One(Class::Number),
+                Place::One(Class::Number),
+                Place::One(Class::Number),
+                Place::End,
+            ],
+            Statement::SiteClass => &[Place::One(Class::OneOf(WordSet::SiteClass)), Place::End],
             Statement::Symmetry => &[
-                Place::OneOf(WordSet::Symmetry),
-                Place::More(WordSet::Symmetry),
+                Place::One(Class::OneOf(WordSet::Symmetry)),
+                Place::More(Class::OneOf(WordSet::Symmetry)),
                 Place::End,
             ],
             Statement::Size => &[
-                Place::Number,
-                Place::Key(Keyword::By),
-                Place::Number,
+                Place::One(Class::Number),
+                Place::Key(Class::Word(Keyword::By)),
+                Place::One(Class::Number),
                 Place::End,
             ],
             Statement::MacroClass => &[
-                Place::OneOf(WordSet::Any),
-                Place::More(WordSet::Any),
+                Place::One(Class::OneOf(WordSet::Any)),
+                Place::More(Class::OneOf(WordSet::Any)),
                 Place::End,
             ],
             Statement::Foreign => &[
-                Place::OneOf(WordSet::Any),
-                Place::More(WordSet::Any),
+                Place::One(Class::OneOf(WordSet::Any)),
+                Place::More(Class::OneOf(WordSet::Any)),
                 Place::End,
             ],
-            Statement::Origin => &[Place::Number, Place::Number, Place::End],
-            Statement::MacroSite => &[Place::Name, Place::Through],
-            Statement::Pin => &[Place::Name],
+            Statement::Origin => &[
+                Place::One(Class::Number),
+                Place::One(Class::Number),
+                Place::End,
+            ],
+            Statement::MacroSite => &[Place::One(Class::Name), Place::Through],
+            Statement::Pin => &[Place::One(Class::Name)],
             Statement::Obs => &[],
             Statement::PinDirection => &[
-                Place::Group(Keyword::Output, 2),
-                Place::Maybe(Keyword::Tristate),
+                Place::Group(Class::Word(Keyword::Output), 2),
+                Place::Maybe(Class::Word(Keyword::Tristate)),
                 Place::End,
-                Place::OneOf(WordSet::PinDirection),
+                Place::One(Class::OneOf(WordSet::PinDirection)),
                 Place::End,
             ],
-            Statement::PinUse => &[Place::OneOf(WordSet::PinUse), Place::End],
+            Statement::PinUse => &[Place::One(Class::OneOf(WordSet::PinUse)), Place::End],
             Statement::Port => &[],
+            Statement::EndAlone => &[],
+            Statement::End => &[Place::One(Class::Every)],
         }
     }
 }

@@ -1,7 +1,7 @@
 ghost use Rattle.std.specs.Prelude.{◌≡◌};
 ghost use Rattle.lef_forms.specs.Keywords.{is, text_of};
 
-/// A word that stands for itself in LEF (LEF/DEF 5.8 Language Reference, LEF Syntax). `;` is one of them.
+/// A word that stands for itself in LEF (LEF/DEF 5.8 Language Reference, LEF Syntax).
 #[derive(Clone, Copy, Debug, PartialEq, Eq)]
 pub enum Keyword {
     Units,
@@ -48,7 +48,6 @@ pub enum Keyword {
     Tristate,
     Use,
     Port,
-    Semicolon,
 }
 
 impl Keyword {
@@ -101,7 +100,6 @@ impl Keyword {
             Keyword::Tristate => b"TRISTATE",
             Keyword::Use => b"USE",
             Keyword::Port => b"PORT",
-            Keyword::Semicolon => b";",
         }
     }
 

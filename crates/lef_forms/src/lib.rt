@@ -1,31 +1,30 @@
-//! The forms of LEF's statements (LEF/DEF 5.8 Language Reference, LEF Syntax), as tables, and what a word does in
-//! a place of a form.
+//! The forms of LEF's statements (LEF/DEF 5.8 Language Reference, LEF Syntax), as tables, and the classes of words of
+//! which they are made.
 //!
 //! [`Section::rows`] has the words by which something begins in a section, and [`Statement::places`] the places
-//! of each statement behind its first word. [`due`] finds the place that a word is to take, with no view of later
-//! words, and [`Place::fit`] says what the word does there. So a statement that is to be taken too is one more
-//! [`Statement`] with its row and its places. [`Passing`] follows a part that is passed over to its end.
+//! of each statement behind its first word. [`judge`] says what a word is to a [`Class`]. So a statement that is to be
+//! taken too is one more [`Statement`] with its row and its places.
 //!
 //! Which parts are passed over, and how far, is a choice of this project and no statement about the reference.
 //! So are `GENERATED` and `TOPOFSTACKONLY` in the header of a via.
 //!
-//! A first word is compared with the words of one section, and a word with the sets of its place alone. Nothing
+//! A first word is compared with the words of one section, and a word with the class of its place alone. Nothing
 //! here takes memory or knows what a statement says.
 #![tactic(auto)]
 
+pub mod class;
 pub mod form;
 pub mod keyword;
+pub mod kind;
 pub mod number;
-pub mod passing;
-pub mod place;
 pub mod symmetry;
 pub mod word_set;
 
-pub use form::{Extent, Form, Section, Statement};
+pub use class::{Class, judge};
+pub use form::{Form, Section, Statement};
 pub use keyword::Keyword;
+pub use kind::LefKind;
 pub use number::{UNITS_LIMIT, is_name, is_number, is_via_name, per_micron_of};
-pub use passing::{DensitySpot, Passed, Passing};
-pub use place::{Fit, Place, due};
 pub use symmetry::Symmetry;
 pub use word_set::{
     WordSet, direction_of, layer_direction_of, layer_type_of, site_class_of, symmetry_of, usage_of,

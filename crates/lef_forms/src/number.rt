@@ -1,23 +1,19 @@
 ghost use Rattle.std.specs.Prelude.{◌≡◌, is_none};
-ghost use Rattle.ld_words.specs.Decimal.{is_decimal, is_digit, unsigned};
+ghost use Rattle.ld_words.specs.Decimal.{is_digit};
 ghost use Rattle.odb_base.specs.Name.{name_fault as fault_of_name};
 ghost use Rattle.lef_forms.specs.Numbers.{is_name, is_number, is_orientation, is_via_name, per_micron_in};
 
-use ld_words::{NumberFault, to_units};
 use odb_base::{Orient, Worded, name_fault};
 
 /// The greatest number of database units per micron (LEF/DEF 5.8 Language Reference, Units).
 pub const UNITS_LIMIT: u32 = 100_000;
 
 /// Whether the word is a decimal, of whatever size.
-#[tactic(auto, unfolding(crate::specs::Numbers::is_number, ld_words::specs::Decimal::units_of))]
+#[tactic(auto, unfolding(crate::specs::Numbers::is_number))]
 pub fn is_number(word: &[u8]) -> bool
     ensures { result ≡ is_number word.now }
 {
-    match to_units(word, 1) {
-        Ok(_) | Err(NumberFault::OutOfRange) => true,
-        Err(NumberFault::NotNumber) => false,
-    }
+    ld_words::is_number(word)
 }
 
 /// Whether the word is a lawful name.

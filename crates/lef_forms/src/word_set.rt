@@ -1,10 +1,11 @@
 ghost use Rattle.std.specs.Prelude.{◌≡◌};
 ghost use Rattle.std.specs.List.{find};
 ghost use Rattle.std.specs.Str.{bytes_eq};
-ghost use Rattle.lef_forms.specs.WordSets.{direction_in, has, layer_direction_in, layer_type_in, site_class_in, symmetry_in, usage_in};
+ghost use Rattle.lef_forms.specs.WordSets.{direction_in, has, is_density_word, layer_direction_in, layer_type_in, site_class_in, symmetry_in, usage_in};
 
 use crate::keyword::Keyword;
 use crate::symmetry::Symmetry;
+use ld_forms::is_semicolon;
 use odb_base::{Direction, LayerDirection, LayerType, SiteClass, Usage, Worded};
 
 /// The words that a place may take (LEF/DEF 5.8 Language Reference). In a set of codes the words for nothing
@@ -23,6 +24,8 @@ pub enum WordSet {
     PinDirection,
     /// `SIGNAL`, `ANALOG`, `POWER`, `GROUND`, `CLOCK`, `RESET`, `SCAN`, `TIEOFF` (Macro Pin, USE).
     PinUse,
+    /// `FREQUENCY`, `WIDTH`, `CUTAREA` (Layer, ACCURRENTDENSITY and DCCURRENTDENSITY).
+    Density,
     /// Any word but `;`.
     Any,
 }
@@ -40,9 +43,17 @@ impl WordSet {
             WordSet::Symmetry => symmetry_of(word).is_some(),
             WordSet::PinDirection => direction_of(word).is_some(),
             WordSet::PinUse => usage_of(word).is_some(),
-            WordSet::Any => !Keyword::Semicolon.is(word),
+            WordSet::Density => is_density_word(word),
+            WordSet::Any => !is_semicolon(word),
         }
     }
+}
+
+#[tactic(auto, unfolding(crate::specs::WordSets::is_density_word))]
+fn is_density_word(word: &[u8]) -> bool
+    ensures { result ≡ is_density_word word.now }
+{
+    Keyword::Frequency.is(word) || Keyword::Width.is(word) || Keyword::CutArea.is(word)
 }
 
 // The value among these whose word this is.

@@ -1,5 +1,7 @@
 -- Vias, pins and macros that are spelled out are read as they are.
 use Rattle.std.proofs.Common.{◌≡◌, ℕ, ◌+◌, ◌-◌, ◌^◌, ◌&&◌, Bool, true, false, List, [], ◌∷◌, ◌++◌, Option, Some, None, codes, fold, if◌then◌else◌, min, not, refl, sym, ap, ◌∙◌, append_assoc}
+use Rattle.std.proofs.lemmas.Bool.{true≢false}
+use Rattle.std.proofs.lemmas.Slice.Eq.{bytes_eq-Decides}
 use Rattle.std.specs.List.{AllByRecursion, flat_map}
 use Rattle.odb_base.specs.Direction.{direction_word}
 use Rattle.odb_base.specs.Orient.{orient_word}
@@ -9,12 +11,15 @@ use Rattle.lef_forms.specs.declared.word_set.WordSet.TheVariants as set
 use Rattle.lef_forms.specs.Forms.{form_of}
 use Rattle.lef_forms.specs.Keywords.{is, text_of}
 use Rattle.lef_forms.specs.Numbers.{is_name, is_number, is_orientation, is_via_name}
-use Rattle.lef_forms.specs.Places.{fit_in, is_left_out}
+use Rattle.ld_forms.specs.Places.{fit_in, is_semicolon, left_out}
+use Rattle.ld_reader.specs.Laws.{run}
+use Rattle.ld_reader.specs.Reading.{between, by_fit, in_form, moved, step_of, whole}
+use Rattle.lef_forms.specs.Classes.{judged}
 use Rattle.lef_forms.specs.WordSets.{direction_in, has}
 use Rattle.lef_drafts.specs.declared.draft.Closed.TheVariants as closed
 use Rattle.lef_drafts.specs.declared.draft.Draft.TheVariants as draft
-use Rattle.lef_reader.specs.declared.reader.Mode.TheVariants as mode
-use Rattle.lef_reader.specs.declared.reader.SoFar.{SoFar}
+use Rattle.ld_reader.specs.Reading.{at}
+use Rattle.lef_reader.specs.declared.so_far.SoFar.{SoFar}
 use Rattle.lef_tree.specs.declared.tree.LefItem.TheVariants as item
 use Rattle.lef_tree.specs.declared.tree.LefMacro.{LefMacro}
 use Rattle.lef_tree.specs.declared.tree.LefPin.{LefPin}
@@ -22,12 +27,12 @@ use Rattle.lef_tree.specs.declared.tree.LefRect.{LefRect}
 use Rattle.lef_tree.specs.declared.tree.LefShape.{LefShape}
 use Rattle.lef_tree.specs.declared.tree.LefVia.{LefVia}
 use Rattle.lef_drafts.specs.Drafts.{close, macro_set, new_macro, new_pin, new_via, opened, pin_set, set as set_of, shapes_set, with_pin}
-use Rattle.lef_reader.specs.Laws.{MacroLinesAreRead, MacrosAreRead, OrientationsNameNoVia, PinsAreRead, Reads, ViasAreRead, in_macro, run, with_draft, with_item, with_macro}
+use Rattle.lef_reader.specs.Laws.{MacroLinesAreRead, MacrosAreRead, OrientationsNameNoVia, PinsAreRead, Reads, ViasAreRead, in_macro, in_text, with_draft, with_item, with_macro}
 use Rattle.lef_reader.specs.MacroSpelling.{AreCorners, AreShapes, Counted, Drawn, ForeignIs, IsMacroLine, IsMask, IsPinLine, IsRect, MacroClassIs, MacroLine, MacroSizeIs, MacroSymmetryIs, ObsIs, OriginIs, PartIs, PinDirectionIs, PinIs, PinIsOutput, PinIsTristate, PinLine, PinUseIs, PortIs, RectLine, Shapes, SiteNamed, ViaHeader, drawn_with, header_words, macro_with, macro_words, pin_of, pin_with, pin_words, rect_words, shapes_words, with_named_pin, with_rect_on}
 use Rattle.lef_tree.specs.Pins.{has_pin}
-use Rattle.lef_reader.specs.Reading.{at, begun, between, by_closed, by_fit, closed_of, closing, ended, in_form, moved, step_of, whole}
+use Rattle.lef_reader.specs.Reading.{begun_by, begun_in, by_closed, closed_of, closing, rules, set_in}
 use Rattle.lef_reader.specs.Spelling.{AreOther, semicolon}
-use Rattle.lef_values.specs.Values.{Words}
+use Rattle.lef_drafts.specs.Values.{Words}
 use Rattle.lef_reader.proofs.Spelled.{lines-read, more-read, no_symmetry, not_keyword, parts-passed, same_bytes, through-read}
 
 no_mask : is_number (text_of keyword.Mask) ≡ false
@@ -39,10 +44,10 @@ unfolding has direction_in direction_word
 no_output = refl
 
 no_any : has set.Any semicolon ≡ false
-unfolding has is
+unfolding has is_semicolon
 no_any = refl
 
-any_word : (w : List ℕ) → is keyword.Semicolon w ≡ false → has set.Any w ≡ true
+any_word : (w : List ℕ) → is_semicolon w ≡ false → has set.Any w ≡ true
 unfolding has
 any_word w other = ap not other
 
@@ -68,12 +73,12 @@ abbrev in_via : SoFar → LefVia → Drawn → SoFar
 in_via so_far via d = with_draft so_far (draft.Via (record via { shapes = d.1 }) d.0)
 
 via-layer : (so_far : SoFar) (via : LefVia) (d : Drawn) (l : List ℕ) → is_name l ≡ true → Reads (in_via so_far via d) (codes "LAYER" ∷ l ∷ semicolon ∷ []) (in_via so_far via (Some l, d.1))
-unfolding run step_of between begun moved in_form by_fit whole set_of shapes_set form_of fit_in is_left_out is
+unfolding run step_of between moved in_form by_fit whole fit_in left_out is_semicolon judged begun_in begun_by form_of is set_in set_of shapes_set
 via-layer so_far via d l fits rest = rw (fits, fits) refl
 
 via-rect-on : (so_far : SoFar) (via : LefVia) (l : List ℕ) (shapes : List LefShape) (mask : Option (List ℕ)) (r : LefRect) → IsMask mask → AreCorners r
     → Reads (in_via so_far via (Some l, shapes)) (rect_words (record { mask = mask; rect = r })) (in_via so_far via (Some l, with_rect_on l shapes (record { mask = mask; rect = r })))
-unfolding run step_of between begun moved in_form by_fit whole set_of shapes_set form_of fit_in is_left_out is
+unfolding run step_of between moved in_form by_fit whole fit_in left_out is_semicolon judged begun_in begun_by form_of is set_in set_of shapes_set
 via-rect-on so_far via l shapes None r masked fits rest =
     let unlike = not_keyword keyword.Mask is_number r.x1 no_mask fits.0 in
     let x1 = fits.0 in let y1 = fits.1 in let x2 = fits.2 in let y2 = fits.3 in rw (unlike, x1, y1, x2, y2) refl
@@ -87,12 +92,12 @@ abbrev in_port : SoFar → LefMacro → LefPin → Drawn → SoFar
 in_port so_far body pin d = with_draft so_far (draft.Port body (record pin { shapes = d.1 }) d.0)
 
 port-layer : (so_far : SoFar) (body : LefMacro) (pin : LefPin) (d : Drawn) (l : List ℕ) → is_name l ≡ true → Reads (in_port so_far body pin d) (codes "LAYER" ∷ l ∷ semicolon ∷ []) (in_port so_far body pin (Some l, d.1))
-unfolding run step_of between begun moved in_form by_fit whole set_of shapes_set form_of fit_in is_left_out is
+unfolding run step_of between moved in_form by_fit whole fit_in left_out is_semicolon judged begun_in begun_by form_of is set_in set_of shapes_set
 port-layer so_far body pin d l fits rest = rw (fits, fits) refl
 
 port-rect-on : (so_far : SoFar) (body : LefMacro) (pin : LefPin) (l : List ℕ) (shapes : List LefShape) (mask : Option (List ℕ)) (r : LefRect) → IsMask mask → AreCorners r
     → Reads (in_port so_far body pin (Some l, shapes)) (rect_words (record { mask = mask; rect = r })) (in_port so_far body pin (Some l, with_rect_on l shapes (record { mask = mask; rect = r })))
-unfolding run step_of between begun moved in_form by_fit whole set_of shapes_set form_of fit_in is_left_out is
+unfolding run step_of between moved in_form by_fit whole fit_in left_out is_semicolon judged begun_in begun_by form_of is set_in set_of shapes_set
 port-rect-on so_far body pin l shapes None r masked fits rest =
     let unlike = not_keyword keyword.Mask is_number r.x1 no_mask fits.0 in
     let x1 = fits.0 in let y1 = fits.1 in let x2 = fits.2 in let y2 = fits.3 in rw (unlike, x1, y1, x2, y2) refl
@@ -106,12 +111,12 @@ abbrev in_obs : SoFar → LefMacro → Drawn → SoFar
 in_obs so_far body d = with_draft so_far (draft.Obs (record body { obstructions = d.1 }) d.0)
 
 obs-layer : (so_far : SoFar) (body : LefMacro) (d : Drawn) (l : List ℕ) → is_name l ≡ true → Reads (in_obs so_far body d) (codes "LAYER" ∷ l ∷ semicolon ∷ []) (in_obs so_far body (Some l, d.1))
-unfolding run step_of between begun moved in_form by_fit whole set_of shapes_set form_of fit_in is_left_out is
+unfolding run step_of between moved in_form by_fit whole fit_in left_out is_semicolon judged begun_in begun_by form_of is set_in set_of shapes_set
 obs-layer so_far body d l fits rest = rw (fits, fits) refl
 
 obs-rect-on : (so_far : SoFar) (body : LefMacro) (l : List ℕ) (shapes : List LefShape) (mask : Option (List ℕ)) (r : LefRect) → IsMask mask → AreCorners r
     → Reads (in_obs so_far body (Some l, shapes)) (rect_words (record { mask = mask; rect = r })) (in_obs so_far body (Some l, with_rect_on l shapes (record { mask = mask; rect = r })))
-unfolding run step_of between begun moved in_form by_fit whole set_of shapes_set form_of fit_in is_left_out is
+unfolding run step_of between moved in_form by_fit whole fit_in left_out is_semicolon judged begun_in begun_by form_of is set_in set_of shapes_set
 obs-rect-on so_far body l shapes None r masked fits rest =
     let unlike = not_keyword keyword.Mask is_number r.x1 no_mask fits.0 in
     let x1 = fits.0 in let y1 = fits.1 in let x2 = fits.2 in let y2 = fits.3 in rw (unlike, x1, y1, x2, y2) refl
@@ -132,9 +137,9 @@ unfolding is_via_name
 via_is_named name h = elim (is_orientation name) as (λ b. (not b && is_name name) ≡ true → is_name name ≡ true) [ true ↦ λ e. cc | false ↦ λ e. e ] h
 
 via-begins : (so_far : SoFar) (name : List ℕ) (default generated top : Bool) (more : List Shapes) (rest : Words) → is_via_name name ≡ true → is_name name ≡ true
-    → run (at (with_draft so_far draft.Top) mode.Between) (codes "VIA" ∷ name ∷ (header_words (header default generated top) ++ (flat_map shapes_words more ++ codes "END" ∷ rest)))
-    ≡ run (at (in_via so_far (new_via name default) (None, [])) mode.Between) (flat_map shapes_words more ++ codes "END" ∷ rest)
-unfolding run step_of between begun moved in_form by_fit whole set_of opened form_of fit_in is_left_out is
+    → run rules (in_text (with_draft so_far draft.Top)) (codes "VIA" ∷ name ∷ (header_words (header default generated top) ++ (flat_map shapes_words more ++ codes "END" ∷ rest)))
+    ≡ run rules (in_text (in_via so_far (new_via name default) (None, []))) (flat_map shapes_words more ++ codes "END" ∷ rest)
+unfolding run step_of between moved in_form by_fit whole fit_in left_out is_semicolon judged begun_in begun_by form_of is set_in set_of opened
 via-begins so_far name false false false [] rest fits named = rw (fits, named) refl
 via-begins so_far name false false false (s ∷ more) rest fits named = rw (fits, named) refl
 via-begins so_far name false false true more rest fits named = rw (fits, named) refl
@@ -149,13 +154,13 @@ via-begins so_far name true true false (s ∷ more) rest fits named = rw (fits, 
 via-begins so_far name true true true more rest fits named = rw (fits, named) refl
 
 via-ends : (so_far : SoFar) (via : LefVia) (d : Drawn) (rest : Words)
-    → run (at (in_via so_far via d) mode.Between) (codes "END" ∷ via.name ∷ rest) ≡ run (at (with_item so_far (item.Via (record via { shapes = d.1 }))) mode.Between) rest
-unfolding run step_of between ended closing closed_of close is
+    → run rules (in_text (in_via so_far via d)) (codes "END" ∷ via.name ∷ rest) ≡ run rules (in_text (with_item so_far (item.Via (record via { shapes = d.1 })))) rest
+unfolding run step_of between moved in_form by_fit whole fit_in left_out is_semicolon judged begun_in begun_by form_of is set_in closing closed_of close
 via-ends so_far via d rest = rw (same_bytes via.name) refl
 
 pub vias-read : ViasAreRead
 vias-read so_far name h more named all rest =
-    let text = λ (t : Words). run (at (with_draft so_far draft.Top) mode.Between) (codes "VIA" ∷ name ∷ t) in
+    let text = λ (t : Words). run rules (in_text (with_draft so_far draft.Top)) (codes "VIA" ∷ name ∷ t) in
     let via = new_via name h.default in
     ap text (append_assoc (header_words h ++ flat_map shapes_words more) (codes "END" ∷ name ∷ []) rest
     ∙ append_assoc (header_words h) (flat_map shapes_words more) (codes "END" ∷ name ∷ rest))
@@ -163,14 +168,22 @@ vias-read so_far name h more named all rest =
     ∙ shapes-read (in_via so_far via) (via-layer so_far via) (via-rect so_far via) (None, []) more all (codes "END" ∷ name ∷ rest)
     ∙ via-ends so_far via (fold drawn_with (None, []) more) rest
 
+-- a `;` isn't in a set that lacks it
+no_semicolon : (fits : List ℕ → Bool) (w : List ℕ) → fits semicolon ≡ false → fits w ≡ true → is_semicolon w ≡ false
+unfolding is_semicolon
+no_semicolon fits w unlike alike = elim (is_semicolon w) as (λ b. is_semicolon w ≡ b → b ≡ false) [
+  | true ↦ λ e. let same : w ≡ semicolon = (bytes_eq-Decides w semicolon).0 e in absurd (true≢false (sym alike ∙ ap fits same ∙ unlike))
+  | false ↦ λ e. refl
+] refl
+
 no_orientation : is_orientation semicolon ≡ false
 unfolding is_orientation orient_word
 no_orientation = refl
 
 pub orientations-name-none : OrientationsNameNoVia
-unfolding run step_of between begun moved in_form by_fit form_of fit_in is_left_out is_via_name is
+unfolding run step_of between moved in_form by_fit whole fit_in left_out is_semicolon judged begun_in begun_by form_of is set_in is_via_name
 orientations-name-none so_far word rest turned =
-    let unlike = not_keyword keyword.Semicolon is_orientation word no_orientation turned in rw (turned, unlike) refl
+    let unlike = no_semicolon is_orientation word no_orientation turned in rw (turned, unlike) refl
 
 -- ---- pins
 
@@ -178,26 +191,26 @@ abbrev in_pin : SoFar → LefMacro → LefPin → SoFar
 in_pin so_far body pin = with_draft so_far (draft.Pin body pin)
 
 port-opens : (so_far : SoFar) (body : LefMacro) (pin : LefPin) (rest : Words)
-    → run (at (in_pin so_far body pin) mode.Between) (codes "PORT" ∷ rest) ≡ run (at (in_port so_far body pin (None, pin.shapes)) mode.Between) rest
-unfolding run step_of between begun moved whole set_of pin_set form_of is
+    → run rules (in_text (in_pin so_far body pin)) (codes "PORT" ∷ rest) ≡ run rules (in_text (in_port so_far body pin (None, pin.shapes))) rest
+unfolding run step_of between moved in_form by_fit whole fit_in left_out is_semicolon judged begun_in begun_by form_of is set_in set_of pin_set
 port-opens so_far body pin rest = refl
 
 port-ends : (so_far : SoFar) (body : LefMacro) (pin : LefPin) (d : Drawn) (rest : Words)
-    → run (at (in_port so_far body pin d) mode.Between) (codes "END" ∷ rest) ≡ run (at (in_pin so_far body (record pin { shapes = d.1 })) mode.Between) rest
-unfolding run step_of between ended closed_of close is
+    → run rules (in_text (in_port so_far body pin d)) (codes "END" ∷ rest) ≡ run rules (in_text (in_pin so_far body (record pin { shapes = d.1 }))) rest
+unfolding run step_of between moved in_form by_fit whole fit_in left_out is_semicolon judged begun_in begun_by form_of is set_in closing closed_of close
 port-ends so_far body pin d rest = refl
 
 port-read : (so_far : SoFar) (body : LefMacro) (pin : LefPin) (more : List Shapes) → AllByRecursion AreShapes more
     → Reads (in_pin so_far body pin) (pin_words (PortIs more)) (in_pin so_far body (pin_with pin (PortIs more)))
 port-read so_far body pin more all rest =
-    let text = λ (t : Words). run (at (in_pin so_far body pin) mode.Between) (codes "PORT" ∷ t) in
+    let text = λ (t : Words). run rules (in_text (in_pin so_far body pin)) (codes "PORT" ∷ t) in
     ap text (append_assoc (flat_map shapes_words more) (codes "END" ∷ []) rest)
     ∙ port-opens so_far body pin (flat_map shapes_words more ++ codes "END" ∷ rest)
     ∙ shapes-read (in_port so_far body pin) (port-layer so_far body pin) (port-rect so_far body pin) (None, pin.shapes) more all (codes "END" ∷ rest)
     ∙ port-ends so_far body pin (fold drawn_with (None, pin.shapes) more) rest
 
 pin-line-read : (so_far : SoFar) (body : LefMacro) (pin : LefPin) (line : PinLine) → IsPinLine line → Reads (in_pin so_far body pin) (pin_words line) (in_pin so_far body (pin_with pin line))
-unfolding run step_of between begun moved in_form by_fit whole set_of pin_set form_of fit_in is_left_out is
+unfolding run step_of between moved in_form by_fit whole fit_in left_out is_semicolon judged begun_in begun_by form_of is set_in set_of pin_set
 pin-line-read so_far body pin (PinDirectionIs w) fits rest =
     let unlike = not_keyword keyword.Output (has set.PinDirection) w no_output fits in rw (unlike, fits, unlike) refl
 pin-line-read so_far body pin PinIsOutput fits rest = refl
@@ -218,32 +231,36 @@ abbrev counting : SoFar → ℕ → SoFar
 counting so_far n = record so_far { passed = n }
 
 pin-opens : (so_far : SoFar) (m : Counted) (name : List ℕ) (rest : Words) → is_name name ≡ true
-    → run (at (in_macro so_far m) mode.Between) (codes "PIN" ∷ name ∷ rest) ≡ run (at (in_pin (counting so_far m.1) m.0 (new_pin name)) mode.Between) rest
-unfolding run step_of between begun moved in_form by_fit whole set_of macro_set form_of fit_in is_left_out is
+    → run rules (in_text (in_macro so_far m)) (codes "PIN" ∷ name ∷ rest) ≡ run rules (in_text (in_pin (counting so_far m.1) m.0 (new_pin name))) rest
+unfolding run step_of between moved in_form by_fit whole fit_in left_out is_semicolon judged begun_in begun_by form_of is set_in set_of macro_set
 pin-opens so_far m name rest named = rw (named, named) refl
+
+-- in a text that goes on
+abbrev live : SoFar → SoFar
+live so_far = record so_far { done = false }
 
 -- a second pin of a name is left out
 pin-closes : (so_far : SoFar) (m : Counted) (pin : LefPin) (rest : Words)
-    → run (by_closed (in_pin (counting so_far m.1) m.0 pin) (with_pin m.0 pin)) rest ≡ run (at (in_macro so_far (with_named_pin m pin)) mode.Between) rest
+    → run rules (at (by_closed (live (in_pin (counting so_far m.1) m.0 pin)) (with_pin m.0 pin))) rest ≡ run rules (in_text (in_macro so_far (with_named_pin m pin))) rest
 pin-closes so_far m pin rest =
     let grown : LefMacro = record m.0 { terminals = m.0.terminals ++ pin ∷ [] } in
     elim (has_pin pin.name m.0.terminals) as (λ b.
-    run (by_closed (in_pin (counting so_far m.1) m.0 pin) (if b then closed.LeftOut (draft.Macro m.0) else closed.Inner (draft.Macro grown))) rest
-    ≡ run (at (in_macro so_far (if b then (m.0, min (m.1 + 1) (2 ^ 64 - 1)) else (grown, m.1))) mode.Between) rest) [
+    run rules (at (by_closed (live (in_pin (counting so_far m.1) m.0 pin)) (if b then closed.LeftOut (draft.Macro m.0) else closed.Inner (draft.Macro grown)))) rest
+    ≡ run rules (in_text (in_macro so_far (if b then (m.0, min (m.1 + 1) (2 ^ 64 - 1)) else (grown, m.1)))) rest) [
       | true ↦ refl
       | false ↦ refl
     ]
 
 pin-ends : (so_far : SoFar) (m : Counted) (pin : LefPin) (rest : Words)
-    → run (at (in_pin (counting so_far m.1) m.0 pin) mode.Between) (codes "END" ∷ pin.name ∷ rest) ≡ run (at (in_macro so_far (with_named_pin m pin)) mode.Between) rest
-unfolding run step_of between ended closing closed_of close is
+    → run rules (in_text (in_pin (counting so_far m.1) m.0 pin)) (codes "END" ∷ pin.name ∷ rest) ≡ run rules (in_text (in_macro so_far (with_named_pin m pin))) rest
+unfolding run step_of between moved in_form by_fit whole fit_in left_out is_semicolon judged begun_in begun_by form_of is set_in closing closed_of close
 pin-ends so_far m pin rest = rw (same_bytes pin.name) (pin-closes so_far m pin rest)
 
 pub pins-read : PinsAreRead
 pins-read so_far m name lines named all rest =
     let inside = counting so_far m.1 in
-    let pin_open = λ (t : Words). run (at (in_pin inside m.0 (new_pin name)) mode.Between) t in
-    let pin_end = λ (n : List ℕ). run (at (in_pin inside m.0 (pin_of name lines)) mode.Between) (codes "END" ∷ n ∷ rest) in
+    let pin_open = λ (t : Words). run rules (in_text (in_pin inside m.0 (new_pin name))) t in
+    let pin_end = λ (n : List ℕ). run rules (in_text (in_pin inside m.0 (pin_of name lines))) (codes "END" ∷ n ∷ rest) in
     pin-opens so_far m name ((flat_map pin_words lines ++ codes "END" ∷ name ∷ []) ++ rest) named
     ∙ ap pin_open (append_assoc (flat_map pin_words lines) (codes "END" ∷ name ∷ []) rest)
     ∙ lines-read (λ p. in_pin inside m.0 p) pin_words pin_with IsPinLine (pin-line-read inside m.0) (new_pin name) lines all (codes "END" ∷ name ∷ rest)
@@ -253,19 +270,19 @@ pins-read so_far m name lines named all rest =
 -- ---- macros
 
 obs-opens : (so_far : SoFar) (m : Counted) (rest : Words)
-    → run (at (in_macro so_far m) mode.Between) (codes "OBS" ∷ rest) ≡ run (at (in_obs (counting so_far m.1) m.0 (None, m.0.obstructions)) mode.Between) rest
-unfolding run step_of between begun moved whole set_of macro_set form_of is
+    → run rules (in_text (in_macro so_far m)) (codes "OBS" ∷ rest) ≡ run rules (in_text (in_obs (counting so_far m.1) m.0 (None, m.0.obstructions))) rest
+unfolding run step_of between moved in_form by_fit whole fit_in left_out is_semicolon judged begun_in begun_by form_of is set_in set_of macro_set
 obs-opens so_far m rest = refl
 
 obs-ends : (so_far : SoFar) (m : Counted) (d : Drawn) (rest : Words)
-    → run (at (in_obs (counting so_far m.1) m.0 d) mode.Between) (codes "END" ∷ rest) ≡ run (at (in_macro so_far (record m.0 { obstructions = d.1 }, m.1)) mode.Between) rest
-unfolding run step_of between ended closed_of close is
+    → run rules (in_text (in_obs (counting so_far m.1) m.0 d)) (codes "END" ∷ rest) ≡ run rules (in_text (in_macro so_far (record m.0 { obstructions = d.1 }, m.1))) rest
+unfolding run step_of between moved in_form by_fit whole fit_in left_out is_semicolon judged begun_in begun_by form_of is set_in closing closed_of close
 obs-ends so_far m d rest = refl
 
 obs-read : (so_far : SoFar) (m : Counted) (more : List Shapes) → AllByRecursion AreShapes more
     → Reads (in_macro so_far m) (macro_words (ObsIs more)) (in_macro so_far (macro_with m (ObsIs more)))
 obs-read so_far m more all rest =
-    let text = λ (t : Words). run (at (in_macro so_far m) mode.Between) (codes "OBS" ∷ t) in
+    let text = λ (t : Words). run rules (in_text (in_macro so_far m)) (codes "OBS" ∷ t) in
     let inside = counting so_far m.1 in
     ap text (append_assoc (flat_map shapes_words more) (codes "END" ∷ []) rest)
     ∙ obs-opens so_far m (flat_map shapes_words more ++ codes "END" ∷ rest)
@@ -273,25 +290,25 @@ obs-read so_far m more all rest =
     ∙ obs-ends so_far m (fold drawn_with (None, m.0.obstructions) more) rest
 
 pub macro-line-read : MacroLinesAreRead
-unfolding run step_of between begun moved in_form by_fit whole set_of macro_set form_of fit_in is_left_out is
+unfolding run step_of between moved in_form by_fit whole fit_in left_out is_semicolon judged begun_in begun_by form_of is set_in set_of macro_set
 macro-line-read so_far m (MacroClassIs w others) fits rest =
     let w_fits = any_word w fits.0 in
     rw (w_fits, append_assoc others (semicolon ∷ []) rest)
-    (more-read statement.MacroClass set.Any refl no_any (in_macro so_far m) (w ∷ []) others rest (any_words others fits.1))
+    (more-read statement.MacroClass set.Any no_any (in_macro so_far m) (w ∷ []) others rest (any_words others fits.1))
 macro-line-read so_far m (ForeignIs w others) fits rest =
     let w_fits = any_word w fits.0 in
     rw (w_fits, append_assoc others (semicolon ∷ []) rest)
-    (more-read statement.Foreign set.Any refl no_any (in_macro so_far m) (w ∷ []) others rest (any_words others fits.1))
+    (more-read statement.Foreign set.Any no_any (in_macro so_far m) (w ∷ []) others rest (any_words others fits.1))
 macro-line-read so_far m (OriginIs x y) fits rest = let x_fits = fits.0 in let y_fits = fits.1 in rw (x_fits, y_fits) refl
 macro-line-read so_far m (MacroSizeIs w h) fits rest = let w_fits = fits.0 in let h_fits = fits.1 in rw (w_fits, h_fits) refl
 macro-line-read so_far m (MacroSymmetryIs w others) fits rest =
     let w_fits = fits.0 in
     rw (w_fits, append_assoc others (semicolon ∷ []) rest)
-    (more-read statement.Symmetry set.Symmetry refl no_symmetry (in_macro so_far m) (w ∷ []) others rest fits.1)
+    (more-read statement.Symmetry set.Symmetry no_symmetry (in_macro so_far m) (w ∷ []) others rest fits.1)
 macro-line-read so_far m (SiteNamed name others) fits rest =
     let named = fits.0 in
     rw (named, append_assoc others (semicolon ∷ []) rest)
-    (through-read statement.MacroSite refl (in_macro so_far m) (name ∷ []) others rest fits.1 ∙ (rw named refl))
+    (through-read statement.MacroSite (in_macro so_far m) (name ∷ []) others rest fits.1 ∙ (rw named refl))
 macro-line-read so_far m (PinIs name lines) fits rest = pins-read so_far m name lines fits.0 fits.1 rest
 macro-line-read so_far m (ObsIs more) fits rest = obs-read so_far m more fits rest
 macro-line-read so_far m (PartIs first words) fits rest = parts-passed (in_macro so_far m) first words fits rest
@@ -315,20 +332,20 @@ macro_name m (ObsIs more ∷ lines) = macro_name (macro_with m (ObsIs more)) lin
 macro_name m (PartIs first words ∷ lines) = macro_name (macro_with m (PartIs first words)) lines
 
 macro-opens : (so_far : SoFar) (name : List ℕ) (rest : Words) → is_name name ≡ true
-    → run (at (with_draft so_far draft.Top) mode.Between) (codes "MACRO" ∷ name ∷ rest) ≡ run (at (in_macro so_far (new_macro name, so_far.passed)) mode.Between) rest
-unfolding run step_of between begun moved in_form by_fit whole set_of opened form_of fit_in is_left_out is
+    → run rules (in_text (with_draft so_far draft.Top)) (codes "MACRO" ∷ name ∷ rest) ≡ run rules (in_text (in_macro so_far (new_macro name, so_far.passed))) rest
+unfolding run step_of between moved in_form by_fit whole fit_in left_out is_semicolon judged begun_in begun_by form_of is set_in set_of opened
 macro-opens so_far name rest named = rw (named, named) refl
 
 macro-ends : (so_far : SoFar) (m : Counted) (rest : Words)
-    → run (at (in_macro so_far m) mode.Between) (codes "END" ∷ m.0.name ∷ rest) ≡ run (at (with_macro so_far m) mode.Between) rest
-unfolding run step_of between ended closing closed_of close is
+    → run rules (in_text (in_macro so_far m)) (codes "END" ∷ m.0.name ∷ rest) ≡ run rules (in_text (with_macro so_far m)) rest
+unfolding run step_of between moved in_form by_fit whole fit_in left_out is_semicolon judged begun_in begun_by form_of is set_in closing closed_of close
 macro-ends so_far m rest = rw (same_bytes m.0.name) refl
 
 pub macros-read : MacrosAreRead
 macros-read so_far name lines named all rest =
     let first : Counted = (new_macro name, so_far.passed) in
-    let macro_open = λ (t : Words). run (at (in_macro so_far first) mode.Between) t in
-    let macro_end = λ (n : List ℕ). run (at (in_macro so_far (fold macro_with first lines)) mode.Between) (codes "END" ∷ n ∷ rest) in
+    let macro_open = λ (t : Words). run rules (in_text (in_macro so_far first)) t in
+    let macro_end = λ (n : List ℕ). run rules (in_text (in_macro so_far (fold macro_with first lines))) (codes "END" ∷ n ∷ rest) in
     macro-opens so_far name ((flat_map macro_words lines ++ codes "END" ∷ name ∷ []) ++ rest) named
     ∙ ap macro_open (append_assoc (flat_map macro_words lines) (codes "END" ∷ name ∷ []) rest)
     ∙ lines-read (in_macro so_far) macro_words macro_with IsMacroLine (macro-line-read so_far) first lines all (codes "END" ∷ name ∷ rest)

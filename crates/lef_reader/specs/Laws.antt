@@ -1,5 +1,5 @@
 -- Laws of the grammar, in the words of the LEF reference.
-use Rattle.std.specs.Prelude.{◌≡◌, ◌++◌, true, false, List, [], ◌∷◌, ℕ, None, Result, Ok, Err, codes, map}
+use Rattle.std.specs.Prelude.{◌≡◌, ◌++◌, true, false, List, [], ◌∷◌, ℕ, None, Ok, Err, codes, map}
 use Rattle.std.specs.List.{AllByRecursion, flat_map}
 use Rattle.ld_words.specs.declared.word.Word.{Word}
 use Rattle.ld_words.specs.Reading.{Ending, Reading as WordsRead}
@@ -9,36 +9,28 @@ use Rattle.lef_forms.specs.Keywords.{is}
 use Rattle.lef_forms.specs.Numbers.{is_name, is_orientation, is_via_name}
 use Rattle.lef_drafts.specs.declared.draft.Draft.{Draft}
 use Rattle.lef_drafts.specs.declared.draft.Draft.TheVariants as draft
-use Rattle.lef_reader.specs.declared.fault.LefKind.{LefKind}
-use Rattle.lef_reader.specs.declared.fault.LefKind.TheVariants as kind
-use Rattle.lef_reader.specs.declared.reader.Mode.TheVariants as mode
-use Rattle.lef_reader.specs.declared.reader.Reader.{Reader}
-use Rattle.lef_reader.specs.declared.reader.SoFar.{SoFar}
+use Rattle.ld_forms.specs.Places.{is_semicolon}
+use Rattle.ld_reader.specs.declared.reader.Reader.{Reader}
+use Rattle.ld_reader.specs.Laws.{run}
+use Rattle.ld_reader.specs.Reading.{at}
+use Rattle.lef_forms.specs.declared.class.Class.{Class}
+use Rattle.lef_forms.specs.declared.form.Statement.{Statement}
+use Rattle.lef_forms.specs.declared.kind.LefKind.TheVariants as kind
+use Rattle.lef_reader.specs.declared.so_far.SoFar.{SoFar}
 use Rattle.lef_tree.specs.declared.tree.LefItem.{LefItem}
 use Rattle.lef_tree.specs.declared.tree.LefItem.TheVariants as item
 use Rattle.lef_tree.specs.declared.tree.LefLayer.{LefLayer}
 use Rattle.lef_tree.specs.declared.tree.LefSite.{LefSite}
 use Rattle.lef_drafts.specs.Drafts.{section_of}
 use Rattle.lef_reader.specs.MacroSpelling.{AreShapes, Counted, IsMacroLine, IsPinLine, MacroLine, PinLine, Shapes, ViaHeader, macro_of, macro_text, macro_with, macro_words, pin_of, pin_text, via_of, via_text, with_named_pin}
-use Rattle.lef_reader.specs.Reading.{Answer, at, counted, left_of, lef_of, read_from, step_of}
+use Rattle.lef_reader.specs.Reading.{Answer, counted, left_of, lef_of, rules}
 use Rattle.lef_reader.specs.Spelling.{AreOther, IsLayerLine, IsPassedOver, IsSiteLine, LayerLine, SiteLine, layer_of, layer_text, layer_with, layer_words, semicolon, site_of, site_text, site_with, site_words}
 use Rattle.lef_reader.specs.TextSpelling.{IsPart, TextPart, part_words, tree_spelled}
-use Rattle.lef_values.specs.Values.{Words}
+use Rattle.lef_drafts.specs.Values.{Words}
 
--- on from a reader, or its fault
-abbrev pub after : Result Reader LefKind → (Reader → Result Reader LefKind) → Result Reader LefKind
-after (Ok next) rest = rest next
-after (Err k) rest = Err k
-
--- one word after another, without their lines
-unfoldable pub run : Reader → Words → Result Reader LefKind
-run reader [] = Ok reader
-run reader (word ∷ words) = after (step_of reader word) (λ next. run next words)
-
--- the lines of words say nothing but where a fault is
-abbrev pub LinesSayNothing : Type 0
-LinesSayNothing = (reader next : Reader) (words more : List Word) (ending : Ending)
-    → run reader (map (λ w. w.bytes) words) ≡ Ok next → read_from reader (words ++ more) ending ≡ read_from next more ending
+-- between statements of a text that goes on
+abbrev pub in_text : SoFar → Reader SoFar Class Statement
+in_text so_far = at (record so_far { done = false })
 
 -- a text has one answer
 abbrev pub AnswersAreOne : Type 0
@@ -46,7 +38,7 @@ AnswersAreOne = (text : WordsRead) (one other : Answer) → lef_of text ≡ one 
 
 -- between statements, these words lead from what was read before them to what is read then, whatever follows
 abbrev pub Reads : SoFar → Words → SoFar → Type 0
-Reads before words next = (rest : Words) → run (at before mode.Between) (words ++ rest) ≡ run (at next mode.Between) rest
+Reads before words next = (rest : Words) → run rules (in_text before) (words ++ rest) ≡ run rules (in_text next) rest
 
 -- with this section open
 abbrev pub with_draft : SoFar → Draft → SoFar
@@ -79,7 +71,7 @@ SitesAreRead = (so_far : SoFar) (name : List ℕ) (lines : List SiteLine) → is
 -- a statement that begins with a word of no row changes nothing but the count
 abbrev pub OthersArePassedOver : Type 0
 OthersArePassedOver = (so_far : SoFar) (first : List ℕ) (others : Words)
-    → is keyword.End first ≡ false → is keyword.Semicolon first ≡ false → form_of (section_of so_far.draft) first ≡ None → AreOther others
+    → is keyword.End first ≡ false → is_semicolon first ≡ false → form_of (section_of so_far.draft) first ≡ None → AreOther others
     → Reads so_far (first ∷ others ++ semicolon ∷ []) (counted so_far)
 
 -- so does any part that is passed over
@@ -95,7 +87,7 @@ ViasAreRead = (so_far : SoFar) (name : List ℕ) (header : ViaHeader) (more : Li
 -- the word of an orientation is no name where that of a via is due, and the fault is at it
 abbrev pub OrientationsNameNoVia : Type 0
 OrientationsNameNoVia = (so_far : SoFar) (word : List ℕ) (rest : Words) → is_orientation word ≡ true
-    → run (at (with_draft so_far draft.Top) mode.Between) (codes "VIA" ∷ word ∷ rest) ≡ Err kind.BadName
+    → run rules (in_text (with_draft so_far draft.Top)) (codes "VIA" ∷ word ∷ rest) ≡ Err kind.BadName
 
 -- with this macro open, and so many parts that were passed over or left out
 abbrev pub in_macro : SoFar → Counted → SoFar

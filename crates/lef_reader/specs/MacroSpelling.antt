@@ -14,8 +14,9 @@ use Rattle.lef_tree.specs.declared.tree.LefVia.{LefVia}
 use Rattle.lef_drafts.specs.Drafts.{kept_first, new_macro, new_pin}
 use Rattle.lef_tree.specs.Pins.{has_pin}
 use Rattle.lef_reader.specs.Spelling.{AreOther, IsPassedOver, semicolon}
-use Rattle.lef_values.specs.Values.{Words, joined, symmetries_of}
-use Rattle.lef_values.specs.Worded.{pin_direction_named, pin_use_named}
+use Rattle.ld_forms.specs.Kept.{joined}
+use Rattle.lef_drafts.specs.Values.{Words, symmetries_of}
+use Rattle.lef_drafts.specs.Worded.{pin_direction_named, pin_use_named}
 
 -- ---- shapes
 

@@ -5,25 +5,28 @@ use Rattle.lef_forms.specs.declared.form.Form.{Form}
 use Rattle.lef_forms.specs.declared.form.Form.TheVariants as form
 use Rattle.lef_forms.specs.declared.form.Section.{Section}
 use Rattle.lef_forms.specs.declared.keyword.Keyword.TheVariants as keyword
-use Rattle.lef_forms.specs.declared.passing.Passed.{Passed}
-use Rattle.lef_forms.specs.declared.passing.Passed.TheVariants as passed
-use Rattle.lef_forms.specs.declared.passing.Passing.{Passing}
-use Rattle.lef_forms.specs.declared.passing.Passing.TheVariants as passing
+use Rattle.ld_forms.specs.declared.passing.Passed.{Passed}
+use Rattle.ld_forms.specs.declared.passing.Passed.TheVariants as passed
+use Rattle.ld_forms.specs.declared.passing.Passing.{Passing}
+use Rattle.ld_forms.specs.declared.passing.Passing.TheVariants as passing
+use Rattle.ld_forms.specs.Passing.{pass_step, passing_of}
+use Rattle.ld_forms.specs.Places.{is_semicolon}
+use Rattle.lef_forms.specs.declared.class.Class.{Class}
+use Rattle.lef_forms.specs.Classes.{judged}
 use Rattle.lef_forms.specs.declared.word_set.WordSet.TheVariants as set
 use Rattle.lef_forms.specs.Forms.{form_of}
 use Rattle.lef_forms.specs.Keywords.{is}
 use Rattle.lef_forms.specs.Numbers.{is_number}
-use Rattle.lef_forms.specs.Passing.{pass_step, passing_of}
 use Rattle.lef_forms.specs.WordSets.{has}
 use Rattle.lef_tree.specs.declared.tree.LefLayer.{LefLayer}
 use Rattle.lef_tree.specs.declared.tree.LefSite.{LefSite}
 use Rattle.lef_drafts.specs.Drafts.{kept_first, new_layer, new_site}
-use Rattle.lef_values.specs.Values.{Words, symmetries_of}
-use Rattle.lef_values.specs.Worded.{layer_direction_named, layer_type_named, site_class_named}
+use Rattle.lef_drafts.specs.Values.{Words, symmetries_of}
+use Rattle.lef_drafts.specs.Worded.{layer_direction_named, layer_type_named, site_class_named}
 
 -- words that aren't looked at before a `;`
 abbrev pub AreOther : Words → Type 0
-AreOther words = AllByRecursion (λ w. is keyword.Semicolon w ≡ false) words
+AreOther words = AllByRecursion (λ w. is_semicolon w ≡ false) words
 
 -- the word that ends a statement
 abbrev pub semicolon : List ℕ
@@ -31,28 +34,29 @@ semicolon = codes ";"
 
 -- ---- parts that are passed over
 
--- behind a word of the part: it has ended, and these words are left
-abbrev pub is_over : Passed → Words → (Passing → Bool) → Bool
-is_over (passed.Goes p) words later = later p
-is_over passed.Ends [] later = true
-is_over passed.Ends (word ∷ words) later = false
-is_over (passed.Behind word) words later = false
+-- behind a word of the part, of which these words are kept: it has ended, and these words are left
+abbrev pub is_over : Passed Class → Words → List ℕ → Words → (Passing Class → Words → Bool) → Bool
+is_over (passed.Goes p) kept word words later = later p kept
+is_over (passed.Names p) kept word words later = later p (kept ++ word ∷ [])
+is_over passed.Ends kept word [] later = true
+is_over passed.Ends kept word (next ∷ words) later = false
+is_over passed.Behind kept word words later = false
 
 -- the part ends with the last of these words, and not before
-unfoldable pub is_whole : Passing → Words → Bool
-is_whole p [] = false
-is_whole p (word ∷ words) = is_over (pass_step p word) words (λ next. is_whole next words)
+unfoldable pub is_whole : Passing Class → Words → Words → Bool
+is_whole p kept [] = false
+is_whole p kept (word ∷ words) = is_over (pass_step judged p kept word) kept word words (λ next names. is_whole next names words)
 
 -- what begins in this way is passed over, and these are the words behind its first
 abbrev pub is_passed : Option Form → Words → Bool
 is_passed (Some (form.Taken s)) words = false
-is_passed (Some (form.Passed extent)) words = is_whole (passing_of extent) words
-is_passed None words = is_whole passing.Statement words
+is_passed (Some (form.Passed extent)) words = is_whole (passing_of extent) [] words
+is_passed None words = is_whole passing.Statement [] words
 
 -- a first word and those behind it are a part that is passed over in the section
 abbrev pub IsPassedOver : Section → List ℕ → Words → Type 0
 IsPassedOver s first words =
-    (is keyword.End first ≡ false) × (is keyword.Semicolon first ≡ false) × (is_passed (form_of s first) words ≡ true)
+    (is keyword.End first ≡ false) × (is_semicolon first ≡ false) × (is_passed (form_of s first) words ≡ true)
 
 -- ---- layers
 

@@ -7,7 +7,7 @@ use Rattle.lef_tree.specs.declared.tree.LefItem.TheVariants as item
 use Rattle.lef_tree.specs.declared.tree.LefTree.{LefTree}
 use Rattle.lef_reader.specs.MacroSpelling.{AreShapes, IsMacroLine, MacroLine, Shapes, ViaHeader, macro_of, macro_text, via_of, via_text}
 use Rattle.lef_reader.specs.Spelling.{IsLayerLine, IsSiteLine, LayerLine, SiteLine, layer_of, layer_text, semicolon, site_of, site_text}
-use Rattle.lef_values.specs.Values.{Words}
+use Rattle.lef_drafts.specs.Values.{Words}
 
 -- a section of a text
 pub data TextPart : Type 0 where

@@ -1,12 +1,28 @@
 // Laws of the grammar. Each is the contract of a function that does nothing.
 
-ghost use Rattle.lef_reader.specs.Laws.{AnswersAreOne, LayerLinesAreRead, LayersAreRead, LinesSayNothing, MacroLinesAreRead, MacrosAreRead, OrientationsNameNoVia, OthersArePassedOver, PartsArePassedOver, PinsAreRead, SiteLinesAreRead, SitesAreRead, TextsAreRead, ViasAreRead, WordsBehindAreLeft};
+ghost use Rattle.lef_reader.specs.Laws.{AnswersAreOne, LayerLinesAreRead, LayersAreRead, MacroLinesAreRead, MacrosAreRead, OrientationsNameNoVia, OthersArePassedOver, PartsArePassedOver, PinsAreRead, SiteLinesAreRead, SitesAreRead, TextsAreRead, ViasAreRead, WordsBehindAreLeft};
+ghost use Rattle.lef_reader.specs.Reading.{rules};
+ghost use Rattle.ld_reader.specs.Laws.{BadIsFault, FilledIsSet, LinesSayNothing, StrayIsPassedOver};
+
+use crate::so_far::SoFar;
+use ld_reader::{statements_are_read, words_are_read_in_order};
 
 /// A text has one answer, and the lines of its words say nothing but where a fault is.
 pub fn texts_have_one_answer()
     ensures one { AnswersAreOne }
-    ensures lines { LinesSayNothing }
-{}
+    ensures lines { LinesSayNothing rules }
+{
+    words_are_read_in_order::<SoFar>();
+}
+
+/// The laws of statements hold of those of LEF.
+pub fn lef_statements_are_read()
+    ensures filled { FilledIsSet rules }
+    ensures stray { StrayIsPassedOver rules }
+    ensures bad { BadIsFault rules }
+{
+    statements_are_read::<SoFar>();
+}
 
 /// A statement of a layer changes what it says of the layer and nothing else, and a layer of any statements in
 /// any order is read as that layer.
@@ -48,4 +64,6 @@ pub fn macros_are_read()
 pub fn texts_are_read()
     ensures trees { TextsAreRead }
     ensures left { WordsBehindAreLeft }
-{}
+{
+    words_are_read_in_order::<SoFar>();
+}

@@ -1,4 +1,5 @@
 use edit_words::TechPart;
+use ld_forms::ShortText;
 use lef_build::{BuildFault, Parts, parts_of};
 use lef_tree::{LefItem, LefLayer, LefMacro, LefPins, LefRect, LefShape, LefSite, LefTree, LefVia};
 use library::{Library, Master};
@@ -210,9 +211,9 @@ fn layer(alloc: Global, name: &[u8], pitch: &[u8]) -> Result<LefItem, Fail> {
         name: Name::new(alloc, name)?,
         sort: LayerType::Routing,
         direction: LayerDirection::Vertical,
-        pitch_x: Text::new(alloc, pitch).ok(),
+        pitch_x: ShortText::new(alloc, pitch).ok(),
         pitch_y: None,
-        width: Text::new(alloc, b"0.14").ok(),
+        width: ShortText::new(alloc, b"0.14").ok(),
         spacing: None,
     }))
 }
@@ -222,8 +223,8 @@ fn site(alloc: Global, name: &[u8], [width, height]: [&[u8]; 2]) -> Result<LefIt
         name: Name::new(alloc, name)?,
         class: SiteClass::Core,
         symmetry: 2,
-        width: Text::new(alloc, width).ok(),
-        height: Text::new(alloc, height).ok(),
+        width: ShortText::new(alloc, width).ok(),
+        height: ShortText::new(alloc, height).ok(),
     }))
 }
 
@@ -232,10 +233,10 @@ fn cell(alloc: Global, site: &[u8], [x, y, width, height]: [&[u8]; 4]) -> Result
     Ok(LefItem::Macro(LefMacro {
         name: Name::new(alloc, b"m")?,
         class: Text::from_vec(Vec::new(alloc)),
-        origin_x: Text::new(alloc, x).ok(),
-        origin_y: Text::new(alloc, y).ok(),
-        width: Text::new(alloc, width).ok(),
-        height: Text::new(alloc, height).ok(),
+        origin_x: ShortText::new(alloc, x).ok(),
+        origin_y: ShortText::new(alloc, y).ok(),
+        width: ShortText::new(alloc, width).ok(),
+        height: ShortText::new(alloc, height).ok(),
         symmetry: 3,
         site: Name::new(alloc, site).ok(),
         foreign: Text::from_vec(Vec::new(alloc)),
@@ -261,9 +262,9 @@ fn via(alloc: Global, layer: &[u8]) -> Result<LefItem, Fail> {
 
 fn square(alloc: Global) -> Result<LefRect, AllocError> {
     Ok(LefRect {
-        x1: Text::new(alloc, b"1")?,
-        y1: Text::new(alloc, b"1")?,
-        x2: Text::new(alloc, b"0")?,
-        y2: Text::new(alloc, b"0")?,
+        x1: ShortText::new(alloc, b"1")?,
+        y1: ShortText::new(alloc, b"1")?,
+        x2: ShortText::new(alloc, b"0")?,
+        y2: ShortText::new(alloc, b"0")?,
     })
 }

@@ -1,4 +1,5 @@
 use crate::pins::LefPins;
+use ld_forms::ShortText;
 use odb_base::{Direction, LayerDirection, LayerType, List, Name, SiteClass, Text, Usage};
 
 /// What a LEF text holds, and how much of it was passed over.
@@ -29,11 +30,11 @@ pub struct LefLayer {
     pub sort: LayerType,
     pub direction: LayerDirection,
     /// Where one pitch is stated, it is both.
-    pub pitch_x: Option<Text>,
-    pub pitch_y: Option<Text>,
-    pub width: Option<Text>,
+    pub pitch_x: Option<ShortText>,
+    pub pitch_y: Option<ShortText>,
+    pub width: Option<ShortText>,
     /// Of the first `SPACING`.
-    pub spacing: Option<Text>,
+    pub spacing: Option<ShortText>,
 }
 
 /// A via (LEF/DEF 5.8 Language Reference, Via).
@@ -54,8 +55,8 @@ pub struct LefSite {
     pub class: SiteClass,
     /// The sum of 1 for X, 2 for Y and 4 for R90.
     pub symmetry: u8,
-    pub width: Option<Text>,
-    pub height: Option<Text>,
+    pub width: Option<ShortText>,
+    pub height: Option<ShortText>,
 }
 
 /// A macro (LEF/DEF 5.8 Language Reference, Macro). A distance is the decimal that states it, in microns, and
@@ -65,10 +66,10 @@ pub struct LefMacro {
     pub name: Name,
     /// The words of `CLASS` with one space between them, empty where nothing is said.
     pub class: Text,
-    pub origin_x: Option<Text>,
-    pub origin_y: Option<Text>,
-    pub width: Option<Text>,
-    pub height: Option<Text>,
+    pub origin_x: Option<ShortText>,
+    pub origin_y: Option<ShortText>,
+    pub width: Option<ShortText>,
+    pub height: Option<ShortText>,
     /// The sum of 1 for X, 2 for Y and 4 for R90.
     pub symmetry: u8,
     /// Of the first `SITE`.
@@ -100,8 +101,8 @@ pub struct LefShape {
 /// Two opposite corners, any of the four first, as the decimals that state them, in microns.
 #[derive(Debug, Drop)]
 pub struct LefRect {
-    pub x1: Text,
-    pub y1: Text,
-    pub x2: Text,
-    pub y2: Text,
+    pub x1: ShortText,
+    pub y1: ShortText,
+    pub x2: ShortText,
+    pub y2: ShortText,
 }

@@ -1,8 +1,8 @@
 ghost use Rattle.std.specs.Prelude.{◌<◌};
 
 use ld_words::{
-    NumberFault, WordFault, Words, lines_are_counted, rounding_is_nearest, spaced_words_are_read,
-    to_units,
+    NumberFault, WordFault, Words, is_number, lines_are_counted, rounding_is_nearest,
+    spaced_words_are_read, to_units,
 };
 use odb_outside::{MemorySource, Source};
 use std::alloc::Global;
@@ -139,6 +139,25 @@ fn the_longest_words(rt: HostRuntime) -> Result<(), Fail> {
 }
 
 #[test]
+fn words_that_are_lent(rt: HostRuntime) -> Result<(), Fail> {
+    let alloc = rt.alloc();
+    let source = MemorySource::new(b"ab\n\"c\n\" d".to_vec(alloc)?, 3, Vec::new(alloc));
+    let mut words = Words::new(alloc, source)?;
+    let lent: [(&[u8], u64, u64); 2] = [(b"ab", 1, 1), (b"\"c\n\"", 2, 3)];
+    for (bytes, line, line_behind) in lent.iter() {
+        assert!(rt; words.advance()?);
+        assert!(rt; words.word() == *bytes);
+        assert_eq!(rt; words.word_line(), *line);
+        assert_eq!(rt; words.line(), *line_behind);
+    }
+    let last = words.next()?.ok_or("a word is missing")?;
+    assert!(rt; last.bytes.bytes() == words.word());
+    assert!(rt; !words.advance()?);
+    assert!(rt; words.word().is_empty());
+    Ok(())
+}
+
+#[test]
 fn a_read_that_fails(rt: HostRuntime) -> Result<(), Fail> {
     let alloc = rt.alloc();
     let source = MemorySource::new(b"ab cd ef".to_vec(alloc)?, 3, vec![in alloc; 2]?);
@@ -167,7 +186,7 @@ fn a_source_given_back(rt: HostRuntime) -> Result<(), Fail> {
 }
 
 /// Decimals, so many units a micron, and the number of units that they are.
-const DECIMALS: [(&[u8], u32, Result<i64, NumberFault>); 35] = [
+const DECIMALS: [(&[u8], u32, Result<i64, NumberFault>); 40] = [
     (b"0.0005", 1000, Ok(1)),
     (b"-0.0005", 1000, Ok(-1)),
     (b"0.0004", 1000, Ok(0)),
@@ -211,6 +230,11 @@ const DECIMALS: [(&[u8], u32, Result<i64, NumberFault>); 35] = [
         1000,
         Err(NumberFault::NotNumber),
     ),
+    (b"00000000000.5", 1000, Ok(500)),
+    (b"000000000000.5", 1000, Ok(500)),
+    (b"-20000.0000000", 100_000, Ok(-2_000_000_000)),
+    (b"20000.00000500", 100_000, Err(NumberFault::OutOfRange)),
+    (b"9999999999999", 100_000, Err(NumberFault::OutOfRange)),
     (b"1e3", 1000, Err(NumberFault::NotNumber)),
     (b".", 1000, Err(NumberFault::NotNumber)),
     (b"-", 1000, Err(NumberFault::NotNumber)),
@@ -225,6 +249,8 @@ const DECIMALS: [(&[u8], u32, Result<i64, NumberFault>); 35] = [
 fn decimals_in_units(rt: HostRuntime) {
     for (word, per_micron, units) in DECIMALS.iter() {
         assert_eq!(rt; to_units(*word, *per_micron), *units);
+        let stands = !matches!(*units, Err(NumberFault::NotNumber));
+        assert_eq!(rt; is_number(*word), stands);
     }
     lines_are_counted();
     spaced_words_are_read();

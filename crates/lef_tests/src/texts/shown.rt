@@ -1,7 +1,8 @@
 //! A tree as one line of words, so that tables of texts can state it.
 
+use ld_forms::ShortText;
 use lef_tree::{LefItem, LefLayer, LefMacro, LefPin, LefShape, LefSite, LefTree, LefVia};
-use odb_base::{Coded, Name, Text};
+use odb_base::{Coded, Name};
 use std::alloc::{AllocError, Global};
 
 /// Each item as words, a `/` behind each.
@@ -97,7 +98,7 @@ fn show_shapes(line: &mut String, shapes: &[LefShape]) -> Result<(), AllocError>
     Ok(())
 }
 
-fn show_number(line: &mut String, number: &Option<Text>) -> Result<(), AllocError> {
+fn show_number(line: &mut String, number: &Option<ShortText>) -> Result<(), AllocError> {
     match number {
         Some(number) => show_word(line, number.bytes()),
         None => line.push_str("- "),

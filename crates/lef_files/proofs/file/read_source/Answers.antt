@@ -2,7 +2,7 @@ use Rattle.std.proofs.Common.{◌∙◌, Option, IsTrue, ap, subst, sym, arith}
 use Rattle.std.specs.Option.{option_map}
 use Rattle.ld_words.specs.Reading.{Reading}
 use Rattle.ld_words.specs.Words.{fault_of}
-use Rattle.lef_reader.specs.Answers.{IsAnswer}
+use Rattle.ld_reader.specs.Answers.{IsAnswer}
 use Rattle.lef_reader.specs.Reading.{lef_of}
 use Rattle.lef_files.proofs.Answered.{answered, failed_on, ready_on}
 use Rattle.lef_files.proofs.file.read_source.Goals as goal

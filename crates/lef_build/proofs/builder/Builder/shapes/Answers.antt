@@ -6,7 +6,7 @@ use Rattle.lef_build.proofs.Walked.{bad_at, made_all, made_more}
 use Rattle.lef_build.proofs.builder.Builder.shapes.Goals as goal
 
 pub loop-shape-init : goal.loop-shape-init
-loop-shape-init c = record { good = refl; made = c.empty_list-made.ensures }
+loop-shape-init c = record { made = record { good = refl; made = c.empty_list-made.ensures }; found = c.find_layer-found.ensures }
 
 pub returns-in_err-shape : goal.returns-in_err-shape
 returns-in_err-shape c =
@@ -21,9 +21,11 @@ returns-in_err-push c =
     rw (exit.1, exit.2) (λ other. absurd (other refl))
 
 pub loop-shape-preserved : goal.loop-shape-preserved
-loop-shape-preserved c =
-    made_more (λ s. has_corners c.args.self.now.tech.units s.rect) (shape_of c.args.self.now.tech) c.args.shapes.now c.loop-shape.shape-index c.shape-item.result c.loop-shape.made c.push.new.self c.in_ok-shape.field-0
-    c.loop-shape-test.true c.shape-item.is c.loop-shape.invariant c.in_ok-shape.ensures c.in_ok-push.ensures.ok
+loop-shape-preserved c = record {
+  made = made_more (λ s. has_corners c.args.self.now.tech.units s.rect) (shape_of c.args.self.now.tech) c.args.shapes.now c.loop-shape.shape-index c.shape-item.result c.loop-shape.made c.push.new.self c.in_ok-shape.field-0
+      c.loop-shape-test.true c.shape-item.is c.loop-shape.invariant.made c.in_ok-shape.ensures c.in_ok-push.ensures.ok;
+  found = c.find_again-found.ensures;
+}
 
 pub returns : goal.returns
-returns c = made_all (λ s. has_corners c.args.self.now.tech.units s.rect) (shape_of c.args.self.now.tech) c.args.shapes.now c.loop-shape.shape-index c.loop-shape.made c.loop-shape-test.false c.loop-shape.invariant
+returns c = made_all (λ s. has_corners c.args.self.now.tech.units s.rect) (shape_of c.args.self.now.tech) c.args.shapes.now c.loop-shape.shape-index c.loop-shape.made c.loop-shape-test.false c.loop-shape.invariant.made

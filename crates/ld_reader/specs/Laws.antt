@@ -1,0 +1,83 @@
+-- Laws of every language of statements: what a statement does whose words fill its places, or fill a front of them.
+use Rattle.std.specs.Prelude.{◌≡◌, ◌++◌, ◌||◌, true, false, List, [], ◌∷◌, Option, Some, None, Result, Ok, Err, if◌then◌else◌, map, not}
+use Rattle.ld_words.specs.declared.word.Word.{Word as WordOn}
+use Rattle.ld_words.specs.Reading.{Ending}
+use Rattle.ld_forms.specs.declared.place.Fit.{Fit}
+use Rattle.ld_forms.specs.declared.place.Fit.TheVariants as fit
+use Rattle.ld_forms.specs.declared.place.Judged.{Judged}
+use Rattle.ld_forms.specs.declared.place.Place.{Place}
+use Rattle.ld_forms.specs.Filling.{Fills}
+use Rattle.ld_forms.specs.Places.{Word, due, fit_in, is_semicolon}
+use Rattle.ld_reader.specs.declared.fault.TextFault.TheVariants as fault
+use Rattle.ld_reader.specs.declared.language.Begun.TheVariants as begun
+use Rattle.ld_reader.specs.declared.reader.Reader.{Reader}
+use Rattle.ld_reader.specs.Reading.{after, at, is_done, left_behind, read_from, step_of}
+use Rattle.ld_reader.specs.Rules.{Rules}
+
+module _ {T C S K : Type 0} (g : Rules T C S K) where
+  -- one word after another, without their lines, as long as one is due
+  unfoldable pub run : Reader T C S → List Word → Result (Reader T C S) K
+  run r [] = Ok r
+  run r (word ∷ words) = if is_done g r then Ok r else after g (step_of g r word) (λ next. run next words)
+
+-- what a word does in the first of some places
+abbrev pub first_fit : {C K : Type 0} → (C → Word → Judged K) → List (Place C) → Word → Option (Fit K)
+first_fit judge [] word = None
+first_fit judge (p ∷ places) word = Some (fit_in judge p word)
+
+-- what a word does in the place that it is to take
+abbrev pub fit_of : {C K : Type 0} → (C → Word → Judged K) → List (Place C) → Word → Option (Fit K)
+fit_of judge places word = first_fit judge (due judge places word) word
+
+-- these words go through the next `;`, and leave those
+pub data GoesThrough : List Word → List Word → Type 0 where
+  Here : {word : Word} {rest : List Word} → is_semicolon word ≡ true → GoesThrough (word ∷ rest) rest
+  There : {word : Word} {words rest : List Word} → is_semicolon word ≡ false → GoesThrough words rest → GoesThrough (word ∷ words) rest
+
+module _ {T C S K : Type 0} (g : Rules T C S K) where
+  -- words that fill the places of a statement set what it sets
+  abbrev pub FilledIsSet : Type 0
+  FilledIsSet = (t u : T) (s : S) (first : Word) (words kept rest : List Word) → g.is_done t ≡ false
+      → g.begun t first ≡ begun.Taken s → Fills g.judged (g.places s) words kept [] rest → g.set t s kept ≡ Ok u
+      → run g (at t) (first ∷ words) ≡ run g (at u) rest
+
+  -- words that fill a front of them, and then one that doesn't belong there, have the statement passed over and counted
+  abbrev pub StrayIsPassedOver : Type 0
+  StrayIsPassedOver = (t : T) (s : S) (first : Word) (words kept : List Word) (places : List (Place C)) (stray : Word) (more rest : List Word)
+      → g.is_done t ≡ false → g.is_done (g.counted t) ≡ false → g.is_strict t ≡ false
+      → g.begun t first ≡ begun.Taken s → Fills g.judged (g.places s) words kept places (stray ∷ more)
+      → fit_of g.judged places stray ≡ Some fit.Misfit → GoesThrough (stray ∷ more) rest
+      → run g (at t) (first ∷ words) ≡ run g (at (g.counted t)) rest
+
+  -- words that fill a front of them, and then one that is no number or name, are that fault; but where the language isn't
+  -- strict no `;` is one
+  abbrev pub BadIsFault : Type 0
+  BadIsFault = (t : T) (s : S) (first : Word) (words kept : List Word) (places : List (Place C)) (word : Word) (more : List Word) (k : K)
+      → g.is_done t ≡ false → (g.is_strict t || not (is_semicolon word)) ≡ true
+      → g.begun t first ≡ begun.Taken s → Fills g.judged (g.places s) words kept places (word ∷ more)
+      → fit_of g.judged places word ≡ Some (fit.Bad k)
+      → run g (at t) (first ∷ words) ≡ Err k
+
+  -- where the language is strict, a word that doesn't belong there is a fault too
+  abbrev pub StrictStrayIsFault : Type 0
+  StrictStrayIsFault = (t : T) (s : S) (first : Word) (words kept : List Word) (places : List (Place C)) (stray : Word) (more : List Word)
+      → g.is_done t ≡ false → g.is_strict t ≡ true
+      → g.begun t first ≡ begun.Taken s → Fills g.judged (g.places s) words kept places (stray ∷ more)
+      → fit_of g.judged places stray ≡ Some fit.Misfit
+      → run g (at t) (first ∷ words) ≡ Err g.unexpected
+
+  -- the lines of words say nothing but where a fault is
+  abbrev pub LinesSayNothing : Type 0
+  LinesSayNothing = (r next : Reader T C S) (words more : List WordOn) (ending : Ending)
+      → run g r (map (λ w. w.bytes) words) ≡ Ok next → read_from g r (words ++ more) ending ≡ read_from g next more ending
+
+  -- the first word that its place doesn't take is the fault, on its line
+  abbrev pub FaultIsOnItsLine : Type 0
+  FaultIsOnItsLine = (r next : Reader T C S) (words : List WordOn) (word : WordOn) (more : List WordOn) (ending : Ending) (k : K) → is_done g next ≡ false
+      → run g r (map (λ w. w.bytes) words) ≡ Ok next → step_of g next word.bytes ≡ Err k
+      → read_from g r (words ++ word ∷ more) ending ≡ Err (fault.At word.line k)
+
+  -- words that lead to a reader for which more are due leave what stands behind them
+  abbrev pub WordsBehindAreLeft : Type 0
+  WordsBehindAreLeft = (r next : Reader T C S) (words more : List WordOn) (ending : Ending) → is_done g next ≡ false
+      → run g r (map (λ w. w.bytes) words) ≡ Ok next → left_behind g r (words ++ more) ending ≡ left_behind g next more ending
