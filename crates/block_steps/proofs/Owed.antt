@@ -1,71 +1,53 @@
 -- What the calls ask that take a step back, of the block that the step led to.
-use Rattle.std.proofs.Common.{◌≡◌, ◌≢◌, true, List, [], ◌∷◌, ℕ, Option, Some, None, IsTrue, refl, sym, ap, ◌∙◌, subst}
-use Rattle.std.specs.Option.{IfSome, option_map}
+use Rattle.std.proofs.Common.{◌≡◌, true, List, ℕ, Option, Some, None, IsTrue, refl, sym, subst}
+use Rattle.std.specs.Option.{option_map}
 use Rattle.slot_pool.specs.Table.{is_live, record_at}
-use Rattle.odb_base.specs.Ids.{holds}
 use Rattle.odb_base.specs.declared.codes.kind.Kind.{Kind}
 use Rattle.odb_base.specs.declared.codes.kind.Kind.TheVariants as kind
 use Rattle.odb_base.specs.declared.codes.direction.Direction.{Direction}
 use Rattle.odb_base.specs.declared.codes.usage.Usage.{Usage}
 use Rattle.odb_base.specs.declared.geometry.Placement.{Placement}
-use Rattle.block_records.specs.declared.record.Record.{Record}
 use Rattle.block_records.specs.declared.record.Record.TheVariants as rec
-use Rattle.block_records.specs.declared.row.RowRec.{RowRec}
 use Rattle.edit_words.specs.declared.memo.Memo.{Memo}
-use Rattle.edit_words.specs.declared.memo.Memo.TheVariants as memo
-use Rattle.edit_words.specs.Tag.{tag_of}
+use Rattle.edit_words.specs.Tag.{NewObject, new_object, tag_of}
 use Rattle.edit_words.specs.declared.step.Step.{Step}
 use Rattle.edit_words.specs.declared.step.Step.TheVariants as step
 use Rattle.edit_words.specs.declared.tag.Tag.{Tag}
-use Rattle.edit_words.specs.declared.tag.Tag.TheVariants as tag
 use Rattle.tech.specs.Technology.{Technology}
 use Rattle.library.specs.declared.master.Master.{Master}
-use Rattle.block_store.specs.Alone.{IsAlone, IsNew}
-use Rattle.block_store.specs.Block.{Block, free_in, live_in, record_of}
-use Rattle.block_store.specs.Fields.{HasPlace, HasUsage, special_in}
-use Rattle.block_store.specs.Moves.{CanUntakeIn}
-use Rattle.block_store.specs.Names.{HasNames, IsFreeBut}
-use Rattle.block_store.specs.Sound.{IsSound, net_terms}
+use Rattle.block_store.specs.Block.{Block, live_in, record_of}
+use Rattle.block_store.specs.Fields.{HasPlace, HasUsage}
+use Rattle.block_store.specs.Sound.{IsSound}
+use Rattle.block_store.proofs.Changed.{parts_by}
 use Rattle.block_store.proofs.Joined.{shown_by}
 use Rattle.block_store.proofs.Shown.{live_by, live_record}
-use Rattle.steps_net.specs.Back.{Came, IsLedTo, grew_of, grown_of, name_moved, next_moved, record_moved, removed, terminals_moved}
-use Rattle.steps_net.specs.Can.{CanDel}
-use Rattle.steps_net.specs.Do.{deleted}
-use Rattle.steps_net.specs.Terms.{CanReturn, IsJoinable, IsJoined}
+use Rattle.steps_net.specs.Back.{Came, IsLedTo, grown_by, record_moved, removed}
+use Rattle.steps_net.specs.Can.{CanDel, CanNew}
+use Rattle.steps_net.specs.Do.{deleted, made_in}
+use Rattle.steps_net.specs.Terms.{IsJoined}
 use Rattle.steps_net.proofs.InstancesGone.{can_return}
 use Rattle.steps_net.proofs.InstancesMade.{came_new_inst}
 use Rattle.steps_net.proofs.Joining.{joinable_after, joined_after, next_joined}
-use Rattle.steps_net.proofs.Making.{bterm_live, bterm_ungiven, bterm_untaken, net_ungiven, net_untaken, row_ungiven, row_untaken}
+use Rattle.steps_net.proofs.Making.{going, gone_free, its_place, new_untaken, record_in}
+use Rattle.steps_net.proofs.OfKinds.{bare_entry}
 use Rattle.steps_net.proofs.Setting.{freed_name, live_directed, live_placed, live_renamed, live_special, live_used}
 use Rattle.steps_net.proofs.SwapsMade.{can_exchange_back}
-use Rattle.block_steps.specs.Owes.{IsAskedBack, IsNamedBack, IsRejoined, IsSwappedBack, IsTakenBack, Owes}
+use Rattle.block_steps.specs.Owes.{IsAskedBack, IsNamedBack, IsRejoined, IsSwappedBack, IsUnmade, Owes}
 
 module _ (tech : Technology) (library : List Master) (cap : ℕ) where
   asked_back : (k : Kind) (id : ℕ) (d : Block) → IsSound tech library cap d → CanDel d k id → IsAskedBack (record_moved (removed (record_of k id d))) (deleted k id d)
   asked_back kind.Inst id d sound can =
       let r = live_record d.inst id can.0 in
       subst (λ o. IsAskedBack (record_moved (removed (option_map (λ e. rec.Inst e.fields) o))) (deleted kind.Inst id d)) (sym r.is) (can_return tech library cap d id sound can r.value r.is)
-  asked_back kind.Net id d sound can =
-      let r = live_record d.net id can.0 in
-      subst (λ o. IsAskedBack (record_moved (removed (option_map (λ e. rec.Net e.fields) o))) (deleted kind.Net id d)) (sym r.is) (net_ungiven tech library cap d id r.value sound r.is)
-  asked_back kind.BTerm id d sound can =
-      let r = live_record d.bterm id (bterm_live tech library cap d id can) in
-      subst (λ o. IsAskedBack (record_moved (removed (option_map (λ e. rec.BTerm e.fields) o))) (deleted kind.BTerm id d)) (sym r.is) (bterm_ungiven tech library cap d id r.value sound r.is)
-  asked_back kind.Row id d sound can =
-      let r = live_record d.row id can in
-      subst (λ o. IsAskedBack (record_moved (removed (option_map (λ e. rec.Row e.fields) o))) (deleted kind.Row id d)) (sym r.is) (row_ungiven tech library cap d id r.value sound r.is)
-  asked_back other id d sound can = absurd can
+  asked_back k id d sound can =
+      let g = going tech library cap d sound k id (λ same. cc) can in
+      subst (λ o. IsAskedBack (record_moved (removed (option_map (record_in k) o))) (deleted k id d)) (sym g.found) (gone_free tech library cap d sound k id (bare_entry k g.entry) g.found)
 
 -- from the step that led to the block, and what it moved out
 module _ (tech : Technology) (library : List Master) (cap : ℕ) (d : Block) (m : Memo) (c : Block) where
-  net_by : (id : ℕ) (name : List ℕ) → Came tech library cap d (step.NewNet id name) m c → IsTakenBack kind.Net id m c
-  net_by id name came = let is = net_untaken tech library cap d id name came.sound came.can in rw (came.memo, came.after) (record { can = is.0; alone = is.1 })
-
-  bterm_by : (id : ℕ) (name : List ℕ) → Came tech library cap d (step.NewBTerm id name) m c → IsTakenBack kind.BTerm id m c
-  bterm_by id name came = let is = bterm_untaken tech library cap d id name came.sound came.can in rw (came.memo, came.after) (record { can = is.0; alone = is.1 })
-
-  row_by : (id : ℕ) (row : RowRec) → Came tech library cap d (step.NewRow id row) m c → IsTakenBack kind.Row id m c
-  row_by id row came = let is = row_untaken tech library cap d id row came.sound came.can in rw (came.memo, came.after) (record { can = is.0; alone = is.1 })
+  new_by : (o : Option NewObject) → IsSound tech library cap d → CanNew (parts_by tech library d.header) d o → m ≡ grown_by (option_map its_place o) d → c ≡ made_in o d → IsUnmade (option_map its_place o) m c
+  new_by None sound can memo after = absurd can
+  new_by (Some new) sound can memo after = let is = new_untaken tech library cap d sound new can in rw (memo, after) (record { can = is.0; alone = is.1 })
 
   del_by : (k : Kind) (id : ℕ) → Came tech library cap d (step.Del k id) m c → IsAskedBack (record_moved m) c
   del_by k id came = rw (came.memo, came.after) (asked_back tech library cap k id d came.sound came.can)
@@ -108,9 +90,6 @@ module _ (tech : Technology) (library : List Master) (cap : ℕ) (d : Block) (m 
 module _ (tech : Technology) (library : List Master) (cap : ℕ) (d : Block) (m : Memo) (c : Block) where
   owed_by : (s : Step) → Came tech library cap d s m c → Owes (tag_of s) m c
   owed_by (step.NewInst id name master terminals) came = came_new_inst tech library cap d id name master terminals m c came
-  owed_by (step.NewNet id name) came = net_by tech library cap d m c id name came
-  owed_by (step.NewBTerm id name) came = bterm_by tech library cap d m c id name came
-  owed_by (step.NewRow id row) came = row_by tech library cap d m c id row came
   owed_by (step.Del k id) came = del_by tech library cap d m c k id came
   owed_by (step.Rename k id name) came = rename_by tech library cap d m c k id name came
   owed_by (step.Swap inst master) came = swap_by tech library cap d m c inst master came
@@ -120,6 +99,7 @@ module _ (tech : Technology) (library : List Master) (cap : ℕ) (d : Block) (m 
   owed_by (step.MakeSpecial net) came = special_by tech library cap d m c net came
   owed_by (step.Join k id net) came = join_by tech library cap d m c k id net came
   owed_by (step.Part k id net) came = part_by tech library cap d m c k id net came
+  owed_by other came = new_by tech library cap d m c (new_object other) came.sound came.can came.memo came.after
 
 pub owed : (tech : Technology) (library : List Master) (cap : ℕ) (t : Tag) (m : Memo) (c : Block) → IsLedTo tech library cap t m c → Owes t m c
 owed tech library cap t m c led = subst (λ u. Owes u m c) led.tag (owed_by tech library cap led.before m c led.step led.came)

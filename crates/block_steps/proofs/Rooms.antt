@@ -1,5 +1,5 @@
 -- Which kind a fault of room names.
-use Rattle.std.proofs.Common.{◌≡◌, ◌<◌, ◌↔◌, true, cond, ltb, ℕ, Option, Some, None, Result, Ok, Err, sym, ap, ◌∙◌}
+use Rattle.std.proofs.Common.{◌≡◌, ◌<◌, ◌↔◌, cond, ℕ, Option, Some, Result, Ok, Err, sym, ap, ◌∙◌}
 use Rattle.std.specs.Result.{IfErr}
 use Rattle.std.proofs.lemmas.Bool.{lt-ltb}
 use Rattle.odb_base.specs.declared.codes.kind.Kind.{Kind}

@@ -1,12 +1,13 @@
 -- What the way back of a step asks of the block that the step led to. Contracts inside the crate cite it.
-use Rattle.std.specs.Prelude.{◌≡◌, ◌≢◌, [], ℕ, Option, Some, IsTrue}
+use Rattle.std.specs.Prelude.{◌≡◌, ◌≢◌, [], ℕ, Option, None, Some, IsTrue}
 use Rattle.std.specs.Option.{IfSome}
 use Rattle.slot_pool.specs.Table.{is_live}
 use Rattle.odb_base.specs.Ids.{holds}
 use Rattle.odb_base.specs.declared.codes.kind.Kind.{Kind}
-use Rattle.odb_base.specs.declared.codes.kind.Kind.TheVariants as kind
+use Rattle.block_records.specs.Record.{kind_of}
 use Rattle.block_records.specs.declared.record.Record.{Record}
 use Rattle.block_records.specs.declared.record.Record.TheVariants as rec
+use Rattle.edit_words.specs.Tag.{new_at}
 use Rattle.edit_words.specs.declared.memo.Memo.{Memo}
 use Rattle.edit_words.specs.declared.memo.Memo.TheVariants as memo
 use Rattle.edit_words.specs.declared.tag.Tag.{Tag}
@@ -23,15 +24,18 @@ use Rattle.steps_net.specs.Terms.{CanExchange, CanReturn, CanUnmake, IsJoinable,
 -- an object that went can come back: its identifier is free, and its name
 abbrev pub IsAskedBack : Option Record → Block → Type 0
 IsAskedBack (Some (rec.Inst r)) c = CanReturn r c
-IsAskedBack (Some (rec.Net r)) c = (free_in kind.Net c ≢ []) × IsNew (rec.Net r) c
-IsAskedBack (Some (rec.BTerm r)) c = (free_in kind.BTerm c ≢ []) × IsNew (rec.BTerm r) c
-IsAskedBack (Some (rec.Row r)) c = (free_in kind.Row c ≢ []) × IsNew (rec.Row r) c
-IsAskedBack other c = ⊥
+IsAskedBack (Some r) c = (free_in (kind_of r) c ≢ []) × IsNew r c
+IsAskedBack None c = ⊥
 
 -- a new object can be taken back
 pub record IsTakenBack (k : Kind) (id : ℕ) (m : Memo) (c : Block) : Type 0 where
   pub can : CanUntakeIn k id (grew_of m) c
   pub alone : IsAlone k id c
+
+-- there is a new object, and it can be taken back
+abbrev pub IsUnmade : Option (Kind × ℕ) → Memo → Block → Type 0
+IsUnmade None m c = ⊥
+IsUnmade (Some new) m c = IsTakenBack new.0 new.1 m c
 
 -- an object can get the name that it had
 pub record IsNamedBack (k : Kind) (id : ℕ) (m : Memo) (c : Block) : Type 0 where
@@ -53,9 +57,6 @@ pub record IsRejoined (k : Kind) (id net : ℕ) (m : Memo) (c : Block) : Type 0 
 -- what the way back of a step, with its tag and what it moved out, asks of the block that the step led to
 abbrev pub Owes : Tag → Memo → Block → Type 0
 Owes (tag.NewInst id master) m c = CanUnmake id (grew_of m) (grown_of m) c
-Owes (tag.NewNet id) m c = IsTakenBack kind.Net id m c
-Owes (tag.NewBTerm id) m c = IsTakenBack kind.BTerm id m c
-Owes (tag.NewRow id) m c = IsTakenBack kind.Row id m c
 Owes (tag.Del k id) m c = IsAskedBack (record_moved m) c
 Owes (tag.Rename k id) m c = IsNamedBack k id m c
 Owes (tag.Swap inst) m c = IsSwappedBack inst m c
@@ -65,6 +66,7 @@ Owes (tag.SetDir bterm) m c = IsTrue (is_live c.bterm bterm)
 Owes (tag.MakeSpecial net) m c = IsTrue (is_live c.net net)
 Owes (tag.Join k id net) m c = IsJoined k id net c
 Owes (tag.Part k id net) m c = IsRejoined k id net m c
+Owes other m c = IsUnmade (new_at other) m c
 
 -- the step moved no name, no record and no terminals out of the block
 abbrev pub IsPlain : Tag → Type 0

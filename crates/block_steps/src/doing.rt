@@ -1,6 +1,6 @@
-ghost use Rattle.std.specs.Prelude.{◌≡◌, ◌≤◌, ◌+◌, length};
+ghost use Rattle.std.specs.Prelude.{◌≡◌, ◌≤◌, ◌+◌, IfSome, length};
 ghost use Rattle.odb_base.specs.declared.codes.kind.Kind.TheVariants as kind;
-ghost use Rattle.edit_words.specs.Tag.{tag_of};
+ghost use Rattle.edit_words.specs.Tag.{new_at, tag_of};
 ghost use Rattle.edit_words.specs.declared.step.Step.TheVariants as step;
 ghost use Rattle.block_store.specs.Sound.{IsSound, inst_terms};
 ghost use Rattle.block_store.specs.Store.{IsRoomBounded};
@@ -11,13 +11,13 @@ ghost use Rattle.steps_net.specs.Room.{IsReady};
 
 use crate::masters::master_of;
 use block_store::block::Block;
-use edit_words::{Memo, Step};
+use edit_words::{Memo, Step, Tag};
 use library::Library;
 use odb_base::{Kind, MasterId, Steps};
 use std::sync::ledger::Ledger;
 use steps_net::instances::{del_inst, new_inst};
 use steps_net::joins::{join, part};
-use steps_net::nets::{new_bterm, new_net, new_row};
+use steps_net::objects::make;
 use steps_net::swaps::swap;
 use tech::Tech;
 
@@ -38,23 +38,19 @@ pub fn apply<L: Ledger>(
     ensures sound { IsSound tech.now library.now block.new.cap block.new.block }
     ensures back { back (tag_of step) result block.new.block ≡ block.old.block }
 {
-    count_room(block);
+    count_room(block, step.tag());
     do_one(block, tech, library, step, moves)
 }
 
-// No table has room in memory for more new objects than the cap leaves slots for.
-fn count_room(block: &Block)
-    ensures inst { IsRoomBounded kind.Inst block.now }
+// No table to which a step adds has room in memory for more new objects than the cap leaves slots for.
+fn count_room(block: &Block, tag: Tag)
+    ensures object { IfSome (new_at tag) (λ new. IsRoomBounded new.0 block.now) }
     ensures iterm { IsRoomBounded kind.ITerm block.now }
-    ensures net { IsRoomBounded kind.Net block.now }
-    ensures bterm { IsRoomBounded kind.BTerm block.now }
-    ensures row { IsRoomBounded kind.Row block.now }
 {
-    block.slots(Kind::Inst);
     block.slots(Kind::ITerm);
-    block.slots(Kind::Net);
-    block.slots(Kind::BTerm);
-    block.slots(Kind::Row);
+    if let Some((kind, _)) = tag.new_object() {
+        block.slots(kind);
+    }
 }
 
 fn do_one<L: Ledger>(
@@ -78,14 +74,10 @@ fn do_one<L: Ledger>(
             master,
             terminals,
         } => new_inst(block, id, name, master, terminals, moves),
-        Step::NewNet { name, .. } => new_net(block, name, moves),
-        Step::NewBTerm { name, .. } => new_bterm(block, name, moves),
-        Step::NewRow { row, .. } => new_row(block, row, moves),
         Step::Del { kind, id } => Memo::Record {
             record: match kind {
                 Kind::Inst => del_inst(block, id, moves),
-                Kind::Net | Kind::BTerm | Kind::Row => block.give(kind, id, moves),
-                _ => unreachable!(),
+                _ => block.give(kind, id, moves),
             },
             next: None,
         },
@@ -105,6 +97,7 @@ fn do_one<L: Ledger>(
             Memo::Nothing
         }
         Step::Part { kind, id, net } => Memo::Next(part(block, kind, id, net, moves)),
+        other => make(block, other, moves),
     }
 }
 

@@ -1,13 +1,15 @@
 ghost use Rattle.std.specs.Prelude.{◌≡◌, ◌↔◌, ℕ, IsErr, IsOk, IsSome, IsTrue, List, Some, false, length};
 ghost use Rattle.slot_pool.specs.Table.{is_live, next_id};
+ghost use Rattle.odb_base.specs.declared.codes.kind.Kind.TheVariants as kind;
 ghost use Rattle.library.specs.Terminals.{term_index};
 ghost use Rattle.block_store.specs.Block.{live_in};
 ghost use Rattle.block_store.specs.Fields.{net_in, special_in};
 ghost use Rattle.block_store.specs.Names.{HasNames};
 ghost use Rattle.block_store.specs.BlockTerminals.{IsBTermDirection};
 ghost use Rattle.block_store.specs.Instances.{term_count};
+ghost use Rattle.block_store.specs.Rows.{IsRowRec};
 ghost use Rattle.block_store.specs.Sound.{IsSound, iterm_net};
-ghost use Rattle.steps_net.specs.Can.{AreNext, AreUnjoined, Can, CanDel, CanJoin, CanName, CanNewInst, CanNewRow, CanPart, CanPlace, CanRename, CanSetUse, CanSwap};
+ghost use Rattle.steps_net.specs.Can.{AreNext, AreUnjoined, Can, CanDel, CanJoin, CanName, CanNewInst, CanPart, CanPlace, CanRename, CanSetUse, CanSwap};
 
 use crate::masters::master_of;
 use block_records::RowRec;
@@ -83,7 +85,7 @@ fn can_new_inst(
 }
 
 fn can_new_row(block: &Block, tech: &Tech, id: u32, row: &RowRec) -> bool
-    ensures { IsTrue result ↔ CanNewRow tech.now block.now.block id row.now }
+    ensures { IsTrue result ↔ CanName kind.Row block.now.block id row.now.name × IsRowRec tech.now row.now }
 {
     let named = can_name(block, Kind::Row, id, &row.name);
     named && is_row(tech, row)
@@ -120,8 +122,8 @@ fn can_del(block: &Block, kind: Kind, id: u32) -> bool
         Kind::Net => block.live(Kind::Net, id)
             && block.members(ListOf::Terms(NetId(id))).is_empty(),
         Kind::BTerm => net_of(block, Kind::BTerm, id) == Some(0),
-        Kind::Row => block.live(Kind::Row, id),
-        _ => false,
+        Kind::ITerm => false,
+        _ => block.live(kind, id),
     }
 }
 

@@ -1,11 +1,12 @@
 ghost use Rattle.std.specs.Prelude.{◌≡◌, ◌≤◌, ◌<◌, ◌+◌, ◌↔◌, Err, IfErr, None, OnOk, Some, length};
 ghost use Rattle.odb_base.specs.declared.codes.kind.Kind.{Kind as AnyKind};
 ghost use Rattle.odb_base.specs.declared.codes.kind.Kind.TheVariants as kind;
+ghost use Rattle.edit_words.specs.Tag.{new_at};
 ghost use Rattle.block_store.specs.Block.{left_in};
 ghost use Rattle.block_store.specs.Lists.{list_at};
 ghost use Rattle.block_store.specs.Store.{ChangesRoom};
 ghost use Rattle.steps_net.specs.Back.{IsReadyBack};
-ghost use Rattle.steps_net.specs.Room.{IsReady, lacking, lacks};
+ghost use Rattle.steps_net.specs.Room.{IsReady, IsReadyForNew, lacking, lacking_new, lacks};
 
 use block_store::block::{Block, SLOT_LIMIT};
 use block_store::fault::RoomFault;
@@ -26,12 +27,9 @@ pub fn make_room(block: &mut Block, library: &Library, step: &Step) -> Result<()
 {
     match step {
         Step::NewInst { terminals, .. } => room_for_inst(block, terminals.items().len()),
-        Step::NewNet { .. } => block.room(Kind::Net, 1),
-        Step::NewBTerm { .. } => block.room(Kind::BTerm, 1),
-        Step::NewRow { .. } => block.room(Kind::Row, 1),
         Step::Swap { inst, .. } => room_in(block, ListOf::InstTerms(InstId(*inst))),
         Step::Join { net, .. } => room_in(block, ListOf::Terms(NetId(*net))),
-        _ => Ok(()),
+        other => room_for_new(block, other.tag()),
     }
 }
 
@@ -44,6 +42,20 @@ pub fn room_back(block: &mut Block, tag: Tag, memo: &Memo) -> Result<(), AllocEr
     match tag {
         Tag::Part { net, .. } => block.room_in(ListOf::Terms(NetId(net))),
         _ => Ok(()),
+    }
+}
+
+// Makes room for a new object, where there is one.
+fn room_for_new(block: &mut Block, tag: Tag) -> Result<(), RoomFault>
+    ensures ok { OnOk result (IsReadyForNew (new_at tag) block.new) }
+    ensures room { OnOk result (lacking_new (new_at tag) block.old.cap block.old.block ≡ None) }
+    ensures full { IfErr result (λ fault. (k : AnyKind) → fault ≡ RoomFault.Full k → lacking_new (new_at tag) block.old.cap block.old.block ≡ Some k) }
+    ensures block { block.new.block ≡ block.old.block }
+    ensures cap { block.new.cap ≡ block.old.cap }
+{
+    match tag.new_object() {
+        Some((kind, _)) => block.room(kind, 1),
+        None => Ok(()),
     }
 }
 

@@ -1,11 +1,11 @@
-ghost use Rattle.std.specs.Prelude.{◌≡◌};
-ghost use Rattle.edit_words.specs.Tag.{tag_of};
+ghost use Rattle.std.specs.Prelude.{◌≡◌, Some};
+ghost use Rattle.edit_words.specs.Tag.{new_at, tag_of};
 ghost use Rattle.edit_words.specs.declared.step.Step.{Step};
 ghost use Rattle.block_store.specs.Block as Model;
 ghost use Rattle.block_store.specs.Moves.{untaken_in, with_name};
-ghost use Rattle.steps_net.specs.Back.{Came, IsLedTo, IsReadyBack, back, grew_of, master_moved, name_moved, record_moved, terminals_moved, undeleted};
+ghost use Rattle.steps_net.specs.Back.{Came, IsLedTo, IsReadyBack, back, grew_of, master_moved, name_moved, record_moved, terminals_moved, undeleted, unmade_at};
 ghost use Rattle.steps_net.specs.Do.{swapped};
-ghost use Rattle.block_steps.specs.Owes.{IsAskedBack, IsNamedBack, IsPlain, IsSwappedBack, IsTakenBack, Owes};
+ghost use Rattle.block_steps.specs.Owes.{IsAskedBack, IsNamedBack, IsPlain, IsSwappedBack, IsTakenBack, IsUnmade, Owes};
 
 use crate::memos::{direction_before, grew, grown, next, place_before, usage_before};
 use block_records::Record;
@@ -65,9 +65,6 @@ fn undo_plain<L: Ledger>(block: &mut Block, tag: Tag, memo: &Memo, moves: &mut S
 {
     match tag {
         Tag::NewInst { id, .. } => undo_new_inst(block, id, grew(memo), grown(memo), moves),
-        Tag::NewNet { id } => untake(block, Kind::Net, id, memo, moves),
-        Tag::NewBTerm { id } => untake(block, Kind::BTerm, id, memo, moves),
-        Tag::NewRow { id } => untake(block, Kind::Row, id, memo, moves),
         Tag::Place { kind, id } => {
             block.set_place(kind, id, place_before(memo), moves);
         }
@@ -84,7 +81,19 @@ fn undo_plain<L: Ledger>(block: &mut Block, tag: Tag, memo: &Memo, moves: &mut S
             part(block, kind, id, net, moves);
         }
         Tag::Part { kind, id, net } => rejoin(block, kind, id, net, next(memo), moves),
-        _ => unreachable!(),
+        _ => unmake(block, tag, memo, moves),
+    }
+}
+
+// Takes the new object of a step back.
+fn unmake<L: Ledger>(block: &mut Block, tag: Tag, memo: &Memo, moves: &mut Steps<L>)
+    requires { IsUnmade (new_at tag) memo.now block.old.block }
+    ensures back { block.new.block ≡ unmade_at (new_at tag) (grew_of memo.now) block.old.block }
+    ensures cap { block.new.cap ≡ block.old.cap }
+{
+    match tag.new_object() {
+        Some((kind, id)) => untake(block, kind, id, memo, moves),
+        None => unreachable!(),
     }
 }
 
@@ -104,29 +113,22 @@ fn undelete<L: Ledger>(block: &mut Block, id: u32, memo: Memo, moves: &mut Steps
     ensures cap { block.new.cap ≡ block.old.cap }
 {
     match memo {
-        Memo::Record {
-            record: Record::Inst(inst),
-            ..
-        } => undo_del_inst(block, inst, id, moves),
-        Memo::Record {
-            record: Record::Net(net),
-            ..
-        } => {
-            block.ungive(Record::Net(net), moves);
-        }
-        Memo::Record {
-            record: Record::BTerm(bterm),
-            ..
-        } => {
-            block.ungive(Record::BTerm(bterm), moves);
-        }
-        Memo::Record {
-            record: Record::Row(row),
-            ..
-        } => {
-            block.ungive(Record::Row(row), moves);
-        }
+        Memo::Record { record, .. } => ungive(block, id, record, moves),
         _ => unreachable!(),
+    }
+}
+
+// Puts an object back into its table, and an instance with its terminals.
+fn ungive<L: Ledger>(block: &mut Block, id: u32, object: Record, moves: &mut Steps<L>)
+    requires { IsAskedBack (Some object) block.old.block }
+    ensures back { block.new.block ≡ undeleted id (Some object) block.old.block }
+    ensures cap { block.new.cap ≡ block.old.cap }
+{
+    match object {
+        Record::Inst(inst) => undo_del_inst(block, inst, id, moves),
+        other => {
+            block.ungive(other, moves);
+        }
     }
 }
 

@@ -1,10 +1,10 @@
-ghost use Rattle.std.specs.Prelude.{◌≡◌, IfOk};
-ghost use Rattle.edit_words.specs.Tag.{tag_of};
+ghost use Rattle.std.specs.Prelude.{◌≡◌, [], IfOk, option_map};
+ghost use Rattle.edit_words.specs.Tag.{new_object, tag_of};
 
 use crate::tag::Tag;
-use block_records::{RowRec, Terminals};
-use odb_base::{Direction, Kind, Name, Placement, Usage};
-use std::alloc::AllocError;
+use block_records::{BTermRec, NetRec, Record, RowRec, Terminals};
+use odb_base::{Direction, Kind, Name, Placement, Text, Usage};
+use std::alloc::{AllocError, Global};
 
 /// An elementary change of a block.
 #[derive(Debug, Drop)]
@@ -130,6 +130,33 @@ impl Step {
         }
     }
 
+    /// The record of the object that the step makes and nothing beside it, if it makes one. It takes no memory.
+    pub fn into_object(self, alloc: Global) -> Option<Record>
+        ensures { result ≡ option_map (λ new. new.object) (new_object self) }
+    {
+        match self {
+            Step::NewNet { name, .. } => Some(Record::Net(NetRec {
+                name,
+                usage: Usage::None,
+                special: false,
+                kept: no_words(alloc),
+                special_kept: no_words(alloc),
+            })),
+            Step::NewBTerm { name, .. } => Some(Record::BTerm(BTermRec {
+                name,
+                net: 0,
+                direction: Direction::None,
+                usage: Usage::None,
+                kept: no_words(alloc),
+            })),
+            Step::NewRow { row, .. } => Some(Record::Row(row)),
+            other => {
+                drop(other);
+                None
+            }
+        }
+    }
+
     /// An equal step.
     pub fn try_clone(&self) -> Result<Step, AllocError>
         ensures { IfOk result (λ step. step ≡ self.now) }
@@ -198,4 +225,11 @@ impl Step {
             }),
         }
     }
+}
+
+// No words of DEF are kept of what is new.
+fn no_words(alloc: Global) -> Text
+    ensures { result ≡ [] }
+{
+    Text::from_vec(Vec::new(alloc))
 }

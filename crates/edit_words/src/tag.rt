@@ -1,3 +1,6 @@
+ghost use Rattle.std.specs.Prelude.{◌≡◌};
+ghost use Rattle.edit_words.specs.Tag.{new_at};
+
 use odb_base::Kind;
 
 /// Which step it was, and the identifiers in it: what has to be known of a step, beside its memo, to take it
@@ -17,4 +20,19 @@ pub enum Tag {
     MakeSpecial { net: u32 },
     Join { kind: Kind, id: u32, net: u32 },
     Part { kind: Kind, id: u32, net: u32 },
+}
+
+impl Tag {
+    /// The kind and the identifier of the object that the step makes, if it makes one.
+    pub fn new_object(self) -> Option<(Kind, u32)>
+        ensures { result ≡ new_at self }
+    {
+        match self {
+            Tag::NewInst { id, .. } => Some((Kind::Inst, id)),
+            Tag::NewNet { id } => Some((Kind::Net, id)),
+            Tag::NewBTerm { id } => Some((Kind::BTerm, id)),
+            Tag::NewRow { id } => Some((Kind::Row, id)),
+            _ => None,
+        }
+    }
 }

@@ -62,10 +62,10 @@ module _ (A : Refusal → ℕ → Type 0) where
   asks_table k p true fact = refused _ (refusal.TableFull k) refl (fact refl)
   asks_table k p false fact = on _ tt refl
 
-module _ {A : Refusal → ℕ → Type 0} {X B : Type 0} where
-  asked_by : (q : Question) (r : Result X Refusal) (qs : List Question) (next : X → Result B Refusal) → ((x : X) × (r ≡ Ok x) × (q.holds ≡ true)) ⊎ IsRefused A q r → ((x : X) → r ≡ Ok x → Answers A qs (next x)) → Answers A (q ∷ qs) (r >>= next)
-  asked_by q r qs next (inl on) go = goes_on A q qs (r >>= next) on.2 (subst (λ s. Answers A qs (s >>= next)) (sym on.1) (go on.0 on.1))
-  asked_by q r qs next (inr refused) go = refuses A q qs (r >>= next) (record {
+module _ {A : Refusal → ℕ → Type 0} {X B : Type 0} (Is : B → Type 0) where
+  asked_by : (q : Question) (r : Result X Refusal) (qs : List Question) (next : X → Result B Refusal) → ((x : X) × (r ≡ Ok x) × (q.holds ≡ true)) ⊎ IsRefused A q r → ((x : X) → r ≡ Ok x → Answers A Is qs (next x)) → Answers A Is (q ∷ qs) (r >>= next)
+  asked_by q r qs next (inl on) go = goes_on A Is q qs (r >>= next) on.2 (subst (λ s. Answers A Is qs (s >>= next)) (sym on.1) (go on.0 on.1))
+  asked_by q r qs next (inr refused) go = refuses A Is q qs (r >>= next) (record {
     why = refused.why;
     is = ap (λ s. s >>= next) refused.is;
     applies = refused.applies;
@@ -73,7 +73,7 @@ module _ {A : Refusal → ℕ → Type 0} {X B : Type 0} where
   })
 
   -- a question, and those that follow where it goes on
-  pub asked : {q : Question} {r : Result X Refusal} → Asks A q r → (qs : List Question) (next : X → Result B Refusal) → ((x : X) → r ≡ Ok x → Answers A qs (next x)) → Answers A (q ∷ qs) (r >>= next)
+  pub asked : {q : Question} {r : Result X Refusal} → Asks A q r → (qs : List Question) (next : X → Result B Refusal) → ((x : X) → r ≡ Ok x → Answers A Is qs (next x)) → Answers A Is (q ∷ qs) (r >>= next)
   asked {q = q} {r = r} asks qs next go = asked_by q r qs next asks.either go
 
 module _ {X Y B : Type 0} where
@@ -82,14 +82,14 @@ module _ {X Y B : Type 0} where
   regrouped (Err why) inner next = refl
 
   -- the first question of several within one
-  pub asked_within : {A : Refusal → ℕ → Type 0} {q : Question} {r : Result X Refusal} → Asks A q r → (inner : X → Result Y Refusal) (qs : List Question) (next : Y → Result B Refusal) → ((x : X) → r ≡ Ok x → Answers A qs (inner x >>= next)) → Answers A (q ∷ qs) ((r >>= inner) >>= next)
-  asked_within {A = A} {q = q} {r = r} asks inner qs next go =
-      subst (Answers A (q ∷ qs)) (regrouped r inner next) (asked asks qs (λ x. inner x >>= next) go)
+  pub asked_within : {A : Refusal → ℕ → Type 0} (Is : B → Type 0) {q : Question} {r : Result X Refusal} → Asks A q r → (inner : X → Result Y Refusal) (qs : List Question) (next : Y → Result B Refusal) → ((x : X) → r ≡ Ok x → Answers A Is qs (inner x >>= next)) → Answers A Is (q ∷ qs) ((r >>= inner) >>= next)
+  asked_within {A = A} Is {q = q} {r = r} asks inner qs next go =
+      subst (Answers A Is (q ∷ qs)) (regrouped r inner next) (asked Is asks qs (λ x. inner x >>= next) go)
 
 -- two tables that are asked for room at once
-pub two_tables : (A : Refusal → ℕ → Type 0) {B : Type 0} (k : Kind) (short : Bool) (rest : Option Kind) (qs : List Question) (next : Unit {0} → Result B Refusal) → Answers A qs (nothing_lacks (cond short (Some k) None) >>= (λ u. nothing_lacks rest >>= next)) → Answers A qs (nothing_lacks (cond short (Some k) rest) >>= next)
-two_tables A k true rest qs next h = h
-two_tables A k false rest qs next h = h
+pub two_tables : (A : Refusal → ℕ → Type 0) {B : Type 0} (Is : B → Type 0) (k : Kind) (short : Bool) (rest : Option Kind) (qs : List Question) (next : Unit {0} → Result B Refusal) → Answers A Is qs (nothing_lacks (cond short (Some k) None) >>= (λ u. nothing_lacks rest >>= next)) → Answers A Is qs (nothing_lacks (cond short (Some k) rest) >>= next)
+two_tables A Is k true rest qs next h = h
+two_tables A Is k false rest qs next h = h
 
 not_name : (fault : Option NameFault) (f : NameFault) → fault ≡ Some f → ¬ (fault ≡ None)
 not_name fault f is none = none_is f (sym none ∙ is)

@@ -1,5 +1,5 @@
 -- What hangs on an object can be parted from it one after the other, and then the object can go.
-use Rattle.std.proofs.Common.{◌≡◌, ◌≢◌, ◌≤◌, ◌+◌, ◌/◌, ◌%◌, true, false, List, [], ◌∷◌, ◌++◌, ℕ, zero, suc, Option, None, Some, Ok, eqb, is_some, slice_get, refl, sym, ap, subst, ◌∙◌, inl, inr, arith}
+use Rattle.std.proofs.Common.{◌≡◌, ◌≢◌, ◌≤◌, ◌/◌, ◌%◌, true, false, List, [], ◌∷◌, ◌++◌, ℕ, zero, suc, Option, None, Some, Ok, eqb, is_some, slice_get, refl, sym, ap, subst, ◌∙◌, inl, inr, arith}
 use Rattle.std.specs.Option.{option_map, option_map_or, unwrap_or}
 use Rattle.std.proofs.lemmas.Bool.{cases_eq, eq-eqb, false_from_ne_true, false≢true, ne_eqb, or_from, or_right}
 use Rattle.std.proofs.lemmas.Option.{some_pair_parts}
@@ -23,7 +23,7 @@ use Rattle.block_store.specs.declared.list_of.ListOf.TheVariants as list
 use Rattle.block_store.specs.Sound.{IsSound, bterm_net, inst_terms, iterm_net, net_terms}
 use Rattle.block_store.proofs.Held.{held_names}
 use Rattle.block_store.proofs.Joined.{bterms_held, iterms_held, some_is, terms_placed}
-use Rattle.block_store.proofs.Shown.{from_one, live_on, live_record, none_live, view_at_on, view_other_on}
+use Rattle.block_store.proofs.Shown.{from_one, live_on, live_record, view_at_on, view_other_on}
 use Rattle.block_store.proofs.TableLemmas.{at_on}
 use Rattle.steps_net.specs.Can.{CanPart}
 use Rattle.steps_net.specs.Do.{do_step}
@@ -272,11 +272,4 @@ module _ (tech : Technology) (library : List Master) (cap : ℕ) where
   destroyed d kind.ITerm id steps sound live h = absurd (err_ok (refusal.BadValue 1) steps h)
   destroyed d kind.Net id steps sound live h = subst (CanAll tech library cap d) (same_ok _ steps h) (net_goes id (net_terms d id) d sound live refl)
   destroyed d kind.BTerm id steps sound live h = subst (CanAll tech library cap d) (same_ok _ steps h) (bterm_goes d id live)
-  destroyed d kind.Pin id steps sound live h = absurd (none_live d.pin id (sound.kinds kind.Pin).each live)
-  destroyed d kind.Row id steps sound live h = subst (CanAll tech library cap d) (same_ok _ steps h) (live, refl, tt)
-  destroyed d kind.Track id steps sound live h = absurd (none_live d.track id (sound.kinds kind.Track).each live)
-  destroyed d kind.Wire id steps sound live h = absurd (none_live d.wire id (sound.kinds kind.Wire).each live)
-  destroyed d kind.Blockage id steps sound live h = absurd (none_live d.blockage id (sound.kinds kind.Blockage).each live)
-  destroyed d kind.Region id steps sound live h = absurd (none_live d.region id (sound.kinds kind.Region).each live)
-  destroyed d kind.Group id steps sound live h = absurd (none_live d.group id (sound.kinds kind.Group).each live)
-  destroyed d kind.Prop id steps sound live h = absurd (none_live d.prop id (sound.kinds kind.Prop).each live)
+  destroyed d k id steps sound live h = subst (CanAll tech library cap d) (same_ok _ steps h) (live, refl, tt)

@@ -4,7 +4,7 @@ use Rattle.std.specs.Prelude.{◌==◌, nat_le, nat_lt}
 use Rattle.std.proofs.lemmas.Bool.{and_parts, eqb-true, false≢true, leb-true, ltb-true, or_cases}
 use Rattle.edit_words.specs.declared.refusal.Refusal.{Refusal}
 use Rattle.edits.specs.Refusals.{ComesNoLater, refusal_number}
-use Rattle.edits.proofs.Questions.{err_ok}
+use Rattle.edits.proofs.Questions.{err_ok, same_ok}
 
 -- a question: the number and the place of its refusal, and whether it goes on
 pub record Question : Type 0 where
@@ -63,22 +63,23 @@ module _ {B : Type 0} (A : Refusal → ℕ → Type 0) where
     pub applies : A why q.place
     pub number : refusal_number why ≡ q.number
 
-  -- the answer is that of the questions, one after another: the refusal of the first that fails, else no refusal
+module _ {B : Type 0} (A : Refusal → ℕ → Type 0) (Is : B → Type 0) where
+  -- the answer is that of the questions, one after another: the refusal of the first that fails, else a value that is so
   pub Answers : List Question → Result B Refusal → Type 0
-  Answers [] r = (y : B) × (r ≡ Ok y)
-  Answers (q ∷ qs) r = ((q.holds ≡ true) × Answers qs r) ⊎ IsRefused q r
+  Answers [] r = (y : B) × (r ≡ Ok y) × Is y
+  Answers (q ∷ qs) r = ((q.holds ≡ true) × Answers qs r) ⊎ IsRefused A q r
 
   pub goes_on : (q : Question) (qs : List Question) (r : Result B Refusal) → q.holds ≡ true → Answers qs r → Answers (q ∷ qs) r
   unfolding Answers
   goes_on q qs r holds rest = inl (holds, rest)
 
-  pub refuses : (q : Question) (qs : List Question) (r : Result B Refusal) → IsRefused q r → Answers (q ∷ qs) r
+  pub refuses : (q : Question) (qs : List Question) (r : Result B Refusal) → IsRefused A q r → Answers (q ∷ qs) r
   unfolding Answers
   refuses q qs r refused = inr refused
 
-  pub ends : (y : B) → Answers [] (Ok y)
+  pub ends : (y : B) → Is y → Answers [] (Ok y)
   unfolding Answers
-  ends y = (y, refl)
+  ends y is = (y, refl, is)
 
   pub refusal_leads : (qs : List Question) (r : Result B Refusal) (why : Refusal) → Answers qs r → in_order qs ≡ true → r ≡ Err why → Leads A qs why
   unfolding Answers
@@ -111,3 +112,10 @@ module _ {B : Type 0} (A : Refusal → ℕ → Type 0) where
   none_fails (q ∷ qs) r y (inl on) h n p (inl here) = false≢true (sym here.2 ∙ on.0)
   none_fails (q ∷ qs) r y (inl on) h n p (inr there) = none_fails qs r y on.1 h n p there
   none_fails (q ∷ qs) r y (inr refused) h n p fails = err_ok refused.why y (sym refused.is ∙ h)
+
+  -- a value that is answered is so
+  pub answer_is : (qs : List Question) (r : Result B Refusal) (y : B) → Answers qs r → r ≡ Ok y → Is y
+  unfolding Answers
+  answer_is [] r y answers h = subst Is (same_ok answers.0 y (sym answers.1 ∙ h)) answers.2
+  answer_is (q ∷ qs) r y (inl on) h = answer_is qs r y on.1 h
+  answer_is (q ∷ qs) r y (inr refused) h = absurd (err_ok refused.why y (sym refused.is ∙ h))

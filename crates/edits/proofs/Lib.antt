@@ -3,11 +3,9 @@ pub mod Destroying
 pub mod EditQuestions
 pub mod FirstRefusal
 pub mod Ids
-pub mod LeastRefusals
 pub mod OneRefusal
 pub mod Placing
-pub mod Planned
+pub mod Plans
 pub mod Questions
 pub mod RowPlans
-pub mod Sound
 pub mod Terminals

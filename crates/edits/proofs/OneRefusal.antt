@@ -18,7 +18,7 @@ use Rattle.block_store.specs.Sound.{IsSound}
 use Rattle.block_store.proofs.Joined.{some_is}
 use Rattle.edits.specs.Plan.{Planned, plan}
 use Rattle.edits.specs.Refusals.{Applies, ComesNoLater, FirstIsPlanned, IsFirst, JoinsJoined, Made, Named, NewName, SwapsDiffering, makes, new_name, objects, refusal_number}
-use Rattle.edits.proofs.LeastRefusals.{plans_unrefused, refuses_first}
+use Rattle.edits.proofs.Plans.{plans_unrefused, refuses_first}
 
 module _ {X : Type 0} (key : X → ℕ) where
   -- no member has this key

@@ -3,11 +3,10 @@ use Rattle.std.proofs.Common.{◌≡◌, ◌≤◌, Bool, true, false, List, ℕ
 use Rattle.std.specs.Option.{option_map, unwrap_or}
 use Rattle.std.proofs.lemmas.Bool.{eqb-false, eqb-true, false≢true, not-true}
 use Rattle.odb_base.specs.declared.codes.kind.Kind.{Kind}
-use Rattle.odb_base.specs.declared.codes.kind.Kind.TheVariants as kind
 use Rattle.odb_base.specs.declared.name.NameFault.{NameFault}
 use Rattle.edit_words.specs.declared.refusal.Refusal.{Refusal}
 use Rattle.edit_words.specs.declared.refusal.Refusal.TheVariants as refusal
-use Rattle.edits.specs.Checks.{◌>>=◌, holds_or, no_fault, nobody, nothing_lacks, some_or}
+use Rattle.edits.specs.Checks.{holds_or, no_fault, nobody, nothing_lacks, some_or}
 use Rattle.edits.specs.Plan.{joined, same_terms, unjoined}
 
 pub same_ok : {A : Type 0} (x y : A) → ◌≡◌ {A = Result A Refusal} (Ok x) (Ok y) → x ≡ y
@@ -15,17 +14,6 @@ same_ok x y h = cc
 
 pub err_ok : {A : Type 0} (why : Refusal) (y : A) → ◌≡◌ {A = Result A Refusal} (Err why) (Ok y) → ⊥
 err_ok why y h = cc
-
-module _ {A B : Type 0} where
-  -- a question went on, and what followed gave the answer
-  pub record WentOn (asked : Result A Refusal) (next : A → Result B Refusal) (y : B) : Type 0 where
-    pub value : A
-    pub is : asked ≡ Ok value
-    pub rest : next value ≡ Ok y
-
-  pub went_on : (asked : Result A Refusal) (next : A → Result B Refusal) (y : B) → (asked >>= next) ≡ Ok y → WentOn asked next y
-  went_on (Ok x) next y h = record { value = x; is = refl; rest = h }
-  went_on (Err why) next y h = absurd (err_ok why y h)
 
 pub held : (b : Bool) (why : Refusal) (u : Unit {0}) → holds_or b why ≡ Ok u → b ≡ true
 held true why u h = refl

@@ -1,8 +1,8 @@
 -- The plan of an edit: the steps that it comes to, in the order in which they are done, or its one refusal. The
 -- questions of each edit stand in the order in which they refuse it.
-use Rattle.std.specs.Prelude.{◌≡◌, ◌==◌, ◌&&◌, ◌+◌, ◌/◌, ◌%◌, Bool, true, false, List, [], ◌∷◌, ◌++◌, ℕ, zero, suc, ℤ, pos, negsuc, Option, None, Some, Result, Ok, Err, if◌then◌else◌, is_none, nat_le, nat_lt, not, unwrap_or}
+use Rattle.std.specs.Prelude.{◌≡◌, ◌==◌, ◌&&◌, ◌+◌, ◌/◌, ◌%◌, Bool, true, false, List, [], ◌∷◌, ◌++◌, ℕ, zero, suc, ℤ, pos, negsuc, Option, None, Some, Result, Ok, Err, if◌then◌else◌, is_none, nat_le, not, unwrap_or}
 use Rattle.std.specs.List.{find}
-use Rattle.std.specs.Option.{option_map, option_or}
+use Rattle.std.specs.Option.{option_map, option_map_or, option_or}
 use Rattle.slot_pool.specs.Table.{Table, next_id}
 use Rattle.odb_base.specs.Geometry.{is_coordinate}
 use Rattle.odb_base.specs.Kind.{has_names, has_place, has_usage, is_terminal}
@@ -22,6 +22,7 @@ use Rattle.library.specs.declared.master.Master.{Master}
 use Rattle.tech.specs.Technology.{Technology, find_site}
 use Rattle.library.specs.declared.mterm.MTerm.{MTerm}
 use Rattle.block_records.specs.declared.row.RowRec.{RowRec}
+use Rattle.edit_words.specs.Tag.{new_at, tag_of}
 use Rattle.edit_words.specs.declared.edit.Edit.{Edit}
 use Rattle.edit_words.specs.declared.edit.RowSites.{RowSites}
 use Rattle.edit_words.specs.declared.edit.RowSites.TheVariants as sites
@@ -328,11 +329,7 @@ plan tech library cap b (edit.Part k id) = plan_part b k id
 -- the identifier of the object that the steps of an edit make, 0 where they make none
 abbrev pub made : List Step → ℕ
 made [] = 0
-made (step.NewInst id name master terminals ∷ steps) = id
-made (step.NewNet id name ∷ steps) = id
-made (step.NewBTerm id name ∷ steps) = id
-made (step.NewRow id row ∷ steps) = id
-made (other ∷ steps) = 0
+made (s ∷ steps) = option_map_or (λ new. new.1) (new_at (tag_of s)) 0
 
 -- the steps can be done one after the other, and the tables allow their new objects
 abbrev pub CanAll : Technology → List Master → ℕ → Block → List Step → Type 0

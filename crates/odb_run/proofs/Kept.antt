@@ -19,7 +19,7 @@ use Rattle.block_store.proofs.Databases.{sound_with_layer, sound_with_master, so
 use Rattle.block_steps.proofs.Soundness.{sound_step}
 use Rattle.steps_net.specs.Do.{do_all, do_step}
 use Rattle.edits.specs.Plan.{CanAll}
-use Rattle.edits.proofs.Planned.{planned_can}
+use Rattle.edits.proofs.Plans.{planned_can}
 use Rattle.lef_build.specs.Building.{built_of}
 use Rattle.lef_build.specs.declared.fault.BuildFault.{BuildFault}
 use Rattle.lef_build.specs.declared.parts.Parts.{Parts}
@@ -69,7 +69,7 @@ after_steps cap s steps is can = record {
 
 after_plan : (cap : ℕ) (s : State) (edit : Edit) (planned : Result (List Step) Refusal) → plan_in s edit ≡ planned → IsSoundState cap s → IsSoundState cap (edit_answer_by s planned).state
 after_plan cap s edit (Ok steps) planned is =
-    after_steps cap s steps is (planned_can s.database.tech s.database.library s.database.cap s.database.block is.sound.block edit steps planned)
+    after_steps cap s steps is (planned_can s.database.tech s.database.library s.database.cap s.database.block edit steps planned is.sound.block)
 after_plan cap s edit (Err why) planned is = is
 
 edit_keeps : (cap : ℕ) (s : State) (edit : Edit) → IsSoundState cap s → IsSoundState cap (edit_answer s edit).state

@@ -204,10 +204,10 @@ fn made(steps: &[Step]) -> u32
     ensures { result ≡ made_by steps.now }
 {
     match steps.first() {
-        Some(Step::NewInst { id, .. }) => *id,
-        Some(Step::NewNet { id, .. }) => *id,
-        Some(Step::NewBTerm { id, .. }) => *id,
-        Some(Step::NewRow { id, .. }) => *id,
-        _ => 0,
+        Some(step) => match step.tag().new_object() {
+            Some((_, id)) => id,
+            None => 0,
+        },
+        None => 0,
     }
 }

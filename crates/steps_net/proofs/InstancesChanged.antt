@@ -1,6 +1,6 @@
 -- A sound block in which the tables of instances and of their terminals changed: what those tables owe.
-use Rattle.std.proofs.Common.{◌≡◌, false, List, [], ℕ, Option, Some, None, IsTrue, is_some, refl, sym, ap, ◌∙◌}
-use Rattle.std.specs.Option.{option_map, option_map_or}
+use Rattle.std.proofs.Common.{◌≡◌, false, List, ℕ, Option, Some, None, refl, sym, ◌∙◌}
+use Rattle.std.specs.Option.{option_map_or}
 use Rattle.std.proofs.lemmas.Bool.{false≢true}
 use Rattle.slot_pool.specs.Table.{Table, record_at}
 use Rattle.odb_base.specs.Ids.{holds}

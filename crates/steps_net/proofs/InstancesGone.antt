@@ -1,18 +1,14 @@
 -- An instance goes with its terminals: the block stays sound, and the way back leads to it.
-use Rattle.std.proofs.Common.{◌≡◌, ◌≢◌, ◌+◌, ◌≤◌, List, [], ◌∷◌, ◌++◌, ℕ, Option, Some, None, IsTrue, length, length-append, slice_get, zero-add, refl, sym, ap, subst, ◌∙◌, arith, inl, inr}
-use Rattle.std.specs.Option.{option_map, option_map_or}
+use Rattle.std.proofs.Common.{◌≡◌, ◌≢◌, ◌+◌, List, [], ℕ, Option, Some, None, IsTrue, length, length-append, slice_get, zero-add, sym, ap, ◌∙◌, arith, inl, inr}
+use Rattle.std.specs.Option.{option_map}
 use Rattle.std.proofs.lemmas.Bool.{cases_eq}
-use Rattle.slot_pool.specs.Table.{IsGood, Table, given, is_live, record_at, ungiven}
+use Rattle.slot_pool.specs.Table.{given, is_live, record_at, ungiven}
 use Rattle.odb_base.specs.declared.codes.kind.Kind.TheVariants as kind
-use Rattle.block_records.specs.declared.inst.InstRec.{InstRec}
 use Rattle.block_records.specs.declared.iterm.ITermRec.{ITermRec}
-use Rattle.block_records.specs.declared.record.Record.{Record}
 use Rattle.block_records.specs.declared.record.Record.TheVariants as rec
 use Rattle.tech.specs.Technology.{Technology}
 use Rattle.library.specs.declared.master.Master.{Master}
 use Rattle.edit_words.specs.Tag.{tag_of}
-use Rattle.edit_words.specs.declared.memo.Memo.{Memo}
-use Rattle.edit_words.specs.declared.memo.Memo.TheVariants as memo
 use Rattle.edit_words.specs.declared.step.Step.TheVariants as step
 use Rattle.block_store.specs.declared.entry.InstEntry.{InstEntry}
 use Rattle.block_store.specs.Block.{Block}
@@ -21,10 +17,10 @@ use Rattle.block_store.specs.Moves.{new_inst}
 use Rattle.block_store.specs.Instances.{IsInst}
 use Rattle.block_store.specs.Sound.{IsSound, inst_terms, iterm_net, iterm_place}
 use Rattle.block_store.specs.TermPlaces.{ArePlaced}
-use Rattle.block_store.proofs.Joined.{iterm_outside, shown_by, some_is, terms_placed}
-use Rattle.block_store.proofs.Shown.{LiveRecord, each_given, live_by, live_record, name_gone, named_given, table_given}
+use Rattle.block_store.proofs.Joined.{iterm_outside, shown_by, terms_placed}
+use Rattle.block_store.proofs.Shown.{each_given, live_record, name_gone, named_given, table_given}
 use Rattle.block_store.proofs.TableLemmas.{at_given, at_given_other, back_given}
-use Rattle.steps_net.specs.Back.{Came, back, memo_of, removed, undeleted}
+use Rattle.steps_net.specs.Back.{back, memo_of, removed}
 use Rattle.steps_net.specs.Can.{AreUnjoined, CanDel}
 use Rattle.steps_net.specs.Do.{do_step, fresh_iterm, terms_given, terms_taken}
 use Rattle.steps_net.specs.Terms.{AreGivable, CanGo, CanReturn}

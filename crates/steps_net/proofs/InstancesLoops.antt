@@ -1,18 +1,16 @@
 -- The loops that take, give and take back the terminals of an instance: what each keeps, from one terminal to the
 -- next.
-use Rattle.std.proofs.Common.{◌≡◌, ◌+◌, ◌-◌, ◌<◌, ◌≤◌, Bool, List, ℕ, IsTrue, drop, get_or, length, leb, refl, sym, ap, ◌∙◌, arith}
+use Rattle.std.proofs.Common.{◌≡◌, ◌+◌, ◌-◌, ◌<◌, ◌≤◌, Bool, List, ℕ, IsTrue, drop, get_or, length, leb, sym, ap, ◌∙◌, arith}
 use Rattle.std.proofs.lemmas.Option.{slice_get-get_or}
 use Rattle.odb_base.specs.declared.codes.kind.Kind.TheVariants as kind
-use Rattle.block_records.specs.Record.{kind_of}
 use Rattle.block_records.specs.declared.iterm.ITermRec.{ITermRec}
-use Rattle.block_records.specs.declared.record.Record.{Record}
 use Rattle.block_records.specs.declared.record.Record.TheVariants as rec
 use Rattle.slot_pool.specs.Table.{CanUntake, Table, is_live, taken}
 use Rattle.block_store.specs.Alone.{IsAlone}
 use Rattle.edit_words.specs.declared.memo.Memo.TheVariants as memo
 use Rattle.block_store.specs.Block.{Block, is_empty}
 use Rattle.block_store.specs.Moves.{taken_in, untaken_in}
-use Rattle.block_store.specs.Store.{ChangesRoom, Rooms, Store, room_of, with_room}
+use Rattle.block_store.specs.Store.{ChangesRoom, Rooms, Store, with_room}
 use Rattle.steps_net.specs.Back.{terms_untaken}
 use Rattle.steps_net.specs.Do.{fresh_iterm, terms_given, terms_taken}
 use Rattle.steps_net.specs.Terms.{AreGivable, AreInNoNet, AreUntakable}

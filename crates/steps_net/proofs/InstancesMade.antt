@@ -1,9 +1,8 @@
 -- A new instance with its terminals: the block stays sound, and the way back leads to it.
-use Rattle.std.proofs.Common.{◌≡◌, ◌≢◌, ◌+◌, ◌-◌, ◌≤◌, ◌⊎◌, Bool, List, [], ◌∷◌, ℕ, Option, Some, None, length, slice_get, zero-add, refl, sym, ap, subst, ◌∙◌, arith, rules, inl, inr}
+use Rattle.std.proofs.Common.{◌≡◌, ◌≢◌, ◌+◌, ◌-◌, ◌≤◌, ◌⊎◌, List, [], ℕ, Option, Some, None, length, slice_get, zero-add, refl, sym, ap, subst, ◌∙◌, arith, rules, inl, inr}
 use Rattle.std.proofs.lemmas.Bool.{cases_eq}
-use Rattle.slot_pool.specs.Table.{CanUntake, IsGood, Table, next_id, record_at, taken, untaken}
+use Rattle.slot_pool.specs.Table.{IsGood, Table, next_id, record_at, taken, untaken}
 use Rattle.odb_base.specs.declared.codes.kind.Kind.TheVariants as kind
-use Rattle.block_records.specs.declared.inst.InstRec.{InstRec}
 use Rattle.block_records.specs.declared.iterm.ITermRec.{ITermRec}
 use Rattle.tech.specs.Technology.{Technology}
 use Rattle.library.specs.declared.master.Master.{Master}
@@ -11,7 +10,6 @@ use Rattle.edit_words.specs.Tag.{tag_of}
 use Rattle.edit_words.specs.declared.memo.Memo.{Memo}
 use Rattle.edit_words.specs.declared.step.Step.TheVariants as step
 use Rattle.block_store.specs.declared.entry.InstEntry.{InstEntry}
-use Rattle.block_store.specs.Alone.{IsAlone}
 use Rattle.block_store.specs.Block.{Block, is_empty}
 use Rattle.block_store.specs.Lists.{list_in}
 use Rattle.block_store.specs.Moves.{new_inst}
@@ -20,14 +18,14 @@ use Rattle.block_store.specs.Placements.{IsPlacement, unplaced}
 use Rattle.block_store.specs.Sound.{IsSound, inst_terms, iterm_net, iterm_place}
 use Rattle.block_store.specs.Tables.{IsTable}
 use Rattle.block_store.specs.TermPlaces.{ArePlaced}
-use Rattle.block_store.proofs.Joined.{iterm_outside, shown_by, some_is, terms_placed}
+use Rattle.block_store.proofs.Joined.{iterm_outside, shown_by, terms_placed}
 use Rattle.block_store.proofs.Shown.{each_taken, named_taken, table_taken}
 use Rattle.block_store.proofs.TableLemmas.{at_next, at_taken, at_taken_other, back_taken, can_untake}
 use Rattle.steps_net.specs.Back.{Came, back, grew_of, grown_of, memo_of, terms_untaken}
 use Rattle.steps_net.specs.Can.{AreNext, CanNewInst}
-use Rattle.steps_net.specs.Do.{do_step, fresh_inst, fresh_iterm, terms_taken}
+use Rattle.steps_net.specs.Do.{do_step, fresh_inst, terms_taken}
 use Rattle.steps_net.specs.Room.{lacking, lacks}
-use Rattle.steps_net.specs.Terms.{AreInNoNet, AreUntakable, CanUnmake}
+use Rattle.steps_net.specs.Terms.{AreUntakable, CanUnmake}
 use Rattle.steps_net.proofs.InstancesChanged.{in_no_members, insts_changed, net_of, terms_in}
 use Rattle.steps_net.proofs.InstancesTerms.{back_terms, found_terms, good_terms, inst_of, kept_terms, named_place, new_terms, number_of, place_is, slots_terms, untakable_terms}
 use Rattle.steps_net.proofs.Making.{room_for}

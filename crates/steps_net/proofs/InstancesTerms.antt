@@ -2,7 +2,7 @@
 use Rattle.std.proofs.Common.{◌≡◌, ◌≢◌, ◌+◌, ◌-◌, ◌<◌, ◌≤◌, ◌⊎◌, Bool, true, false, cond, List, [], ◌∷◌, ◌++◌, ℕ, zero, suc, Option, Some, None, IsTrue, is_some, count_by, drop, get_or, length, slice_get, leb, refl, sym, ap, subst, ◌∙◌, add-one, drop-cons, arith, inl, inr}
 use Rattle.std.specs.Option.{option_map}
 use Rattle.std.proofs.Math.Nat.{sub-zero, zero-sub}
-use Rattle.std.proofs.lemmas.Bool.{cases_Bool, cases_eq}
+use Rattle.std.proofs.lemmas.Bool.{cases_eq}
 use Rattle.std.proofs.lemmas.Bool.Decides.{nat_tests}
 use Rattle.std.proofs.lemmas.List.{length-set, length_push}
 use Rattle.std.proofs.lemmas.List.Sums.{count_by-le-length, sum_by-set}
@@ -181,10 +181,6 @@ untakable_turn _ _ _ id ids t (Reused n) can rest = (can, rest)
 can_turn : (n m : ℕ) (grew : Bool) (id : ℕ) (ids : List ℕ) (t : Table ITermRec) → IsTurn n m grew → AreUntakable n (id ∷ ids) t → CanUntake (terms_untaken m ids t) id grew
 can_turn _ _ _ id ids t Grew can = can.0
 can_turn _ _ _ id ids t (Reused n) can = can.0
-
-rest_turn : (n m : ℕ) (grew : Bool) (id : ℕ) (ids : List ℕ) (t : Table ITermRec) → IsTurn n m grew → AreUntakable n (id ∷ ids) t → AreUntakable m ids t
-rest_turn _ _ _ id ids t Grew can = can.1
-rest_turn _ _ _ id ids t (Reused n) can = can.1
 
 -- new terminals that are taken back leave the table as it was
 pub back_terms : (inst k : ℕ) (ids : List ℕ) (t : Table ITermRec) (reused : ℕ) → IsGood t → AreNext ids t → reused ≡ length ids - (length ids - length t.free)

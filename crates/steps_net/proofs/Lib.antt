@@ -5,6 +5,7 @@ pub mod InstancesMade
 pub mod InstancesTerms
 pub mod Joining
 pub mod Making
+pub mod OfKinds
 pub mod Setting
 pub mod SwapsMade
 pub mod SwapsOrder

@@ -1,8 +1,9 @@
 -- A field of an object is set, or its name: the block stays sound, and the way back leads to it.
-use Rattle.std.proofs.Common.{◌≡◌, Bool, true, false, List, [], ℕ, Option, Some, IsTrue, refl, sym, ap, ◌∙◌}
+use Rattle.std.proofs.Common.{◌≡◌, ◌≢◌, Bool, true, false, List, [], ℕ, Option, None, Some, IsTrue, refl, sym, ap, ◌∙◌}
 use Rattle.std.specs.Option.{option_map, unwrap_or}
 use Rattle.std.proofs.lemmas.Bool.{false≢true}
-use Rattle.slot_pool.specs.Table.{is_live, record_at}
+use Rattle.slot_pool.specs.Table.{is_live}
+use Rattle.odb_base.specs.Name.{IsName}
 use Rattle.odb_base.specs.declared.codes.direction.Direction.{Direction}
 use Rattle.odb_base.specs.declared.codes.direction.Direction.TheVariants as direction
 use Rattle.odb_base.specs.declared.codes.kind.Kind.{Kind}
@@ -13,31 +14,49 @@ use Rattle.odb_base.specs.declared.geometry.Placement.{Placement}
 use Rattle.tech.specs.Technology.{Technology}
 use Rattle.library.specs.declared.master.Master.{Master}
 use Rattle.block_store.specs.Block.{Block, live_in}
-use Rattle.block_store.specs.BlockTerminals.{IsBTermDirection, bterm_name}
+use Rattle.block_store.specs.BlockTerminals.{IsBTermDirection}
 use Rattle.block_store.specs.Fields.{direction_in, place_in, special_in, usage_in}
-use Rattle.block_store.specs.Instances.{inst_name}
-use Rattle.block_store.specs.Kinds.{Entry, table_of}
+use Rattle.block_store.specs.Kinds.{Entry, on_entry, table, table_of}
 use Rattle.block_store.specs.Lens.{Lens}
 use Rattle.block_store.specs.Lists.{on_record}
 use Rattle.block_store.specs.Moves.{with_direction, with_name, with_place, with_special, with_usage}
 use Rattle.block_store.specs.Names.{IsFreeBut, name_by, name_in}
-use Rattle.block_store.specs.Nets.{net_name}
 use Rattle.block_store.specs.Placements.{unplaced}
 use Rattle.block_store.specs.Sound.{IsSound}
-use Rattle.block_store.specs.Tables.{AreNamed}
-use Rattle.block_store.specs.Rows.{row_name}
-use Rattle.block_store.specs.View.{group_name, region_name}
-use Rattle.block_store.proofs.Changed.{sound_renamed}
+use Rattle.block_store.specs.Tables.{HasDistinctNames}
+use Rattle.block_store.specs.View.{laws}
+use Rattle.block_store.proofs.Changed.{parts_by, sound_renamed}
 use Rattle.block_store.proofs.OneTable.{live_stays}
 use Rattle.block_store.proofs.SetFields.{BTermDirection, BTermUsage, InstPlace, NetSpecial, NetUsage, PinPlace, entry_back, field, field_back, sound_field}
 use Rattle.block_store.proofs.Shown.{live_record, name_left}
 use Rattle.steps_net.specs.Can.{CanPlace, CanRename, CanSetUse}
+use Rattle.steps_net.proofs.OfKinds.{MayBeNamed, may_be_named}
 
--- after a change of its name no other object has the name that it had
-freed : (k : Kind) (name : Lens (Entry k) (List ℕ)) (new : List ℕ) (id : ℕ) (d : Block) → IsTrue (is_live (table_of k d) id) → AreNamed name.get (table_of k d) → (other : ℕ) → name_by name.get other (on_record (name.set new) id (table_of k d)) ≡ Some (unwrap_or (name_by name.get id (table_of k d)) []) → other ≡ id
-freed k name new id d live named other at =
-    let r = live_record (table_of k d) id live in
-    name_left name.get (name.set new) id r.value (table_of k d) r.is named other (at ∙ ap (λ o. Some (unwrap_or (option_map name.get o) [])) r.is)
+module _ (k : Kind) where
+  -- an object of a kind with names has another name, by the lens of its kind
+  abbrev renamed : Option (Lens (Entry k) (List ℕ)) → ℕ → List ℕ → Block → Block
+  renamed None id name b = b
+  renamed (Some lens) id name b = on_entry k (lens.set name) id b
+
+  abbrev named : Option (Lens (Entry k) (List ℕ)) → ℕ → Block → Option (List ℕ)
+  named None id b = None
+  named (Some lens) id b = name_by lens.get id (table_of k b)
+
+  renamed_back : (o : Option (Lens (Entry k) (List ℕ))) (id : ℕ) (name : List ℕ) (d : Block) → renamed o id (unwrap_or (named o id d) []) (renamed o id name d) ≡ d
+  renamed_back None id name d = refl
+  renamed_back (Some lens) id name d = entry_back k lens id name [] d
+
+  -- after a change of its name no other object has the name that it had
+  freed : (o : Option (Lens (Entry k) (List ℕ))) (id : ℕ) (new : List ℕ) (d : Block) → IsTrue (is_live (table_of k d) id) → HasDistinctNames o (table_of k d) → (other : ℕ) → named o other (renamed o id new d) ≡ Some (unwrap_or (named o id d) []) → other ≡ id
+  freed None id new d live distinct other at = cc
+  freed (Some lens) id new d live distinct other at =
+      let r = live_record (table_of k d) id live in
+      let at_other = ap (λ t. name_by lens.get other t) (sym ((table k).set_get (on_record (lens.set new) id (table_of k d)) d)) ∙ at in
+      name_left lens.get (lens.set new) id r.value (table_of k d) r.is distinct other (at_other ∙ ap (λ o. Some (unwrap_or (option_map lens.get o) [])) r.is)
+
+  live_named : (o : Option (Lens (Entry k) (List ℕ))) (id : ℕ) (name : List ℕ) (d : Block) → IsTrue (live_in k id d) → IsTrue (live_in k id (renamed o id name d))
+  live_named None id name d live = live
+  live_named (Some lens) id name d live = live_stays k (lens.set name) id d k id live
 
 module _ (tech : Technology) (library : List Master) (cap : ℕ) (d : Block) where
   pub sound_place : (k : Kind) (id : ℕ) (place : Placement) → IsSound tech library cap d → CanPlace d k id place → IsSound tech library cap (with_place k id place d)
@@ -56,34 +75,18 @@ module _ (tech : Technology) (library : List Master) (cap : ℕ) (d : Block) whe
   pub sound_special : (id : ℕ) (special : Bool) → IsSound tech library cap d → IsSound tech library cap (with_special id special d)
   sound_special id special sound = sound_field tech library cap d NetSpecial special id tt sound
 
+  -- an object of a kind with names has one that no object of its kind has
+  renamed_sound : (k : Kind) (o : Option (Lens (Entry k) (List ℕ))) → (laws k).name ≡ o → MayBeNamed k o (parts_by tech library d.header) → (id : ℕ) (name : List ℕ) → IsName name → IsTrue (is_live (table_of k d) id) → ((other : ℕ) → named k o other d ≢ Some name) → IsSound tech library cap d → IsSound tech library cap (renamed k o id name d)
+  renamed_sound k None is may id name lawful live free sound = sound
+  renamed_sound k (Some lens) is may id name lawful live free sound = sound_renamed tech library cap d k lens is name id (may.0 name lawful) (may.1 name) live free sound
+
   pub sound_rename : (k : Kind) (id : ℕ) (name : List ℕ) → IsSound tech library cap d → CanRename d k id name → IsSound tech library cap (with_name k id name d)
-  sound_rename kind.Inst id name sound can =
-      sound_renamed tech library cap d kind.Inst inst_name refl name id
-      (λ x is. record { name = can.lawful; place = is.place; fitted = is.fitted; group = is.group; kept = is.kept; props = is.props }) (λ x. refl) can.live can.free sound
-  sound_rename kind.Net id name sound can =
-      sound_renamed tech library cap d kind.Net net_name refl name id
-      (λ x is. record { name = can.lawful; kept = is.kept; special_kept = is.special_kept; wires = is.wires; props = is.props }) (λ x. refl) can.live can.free sound
-  sound_rename kind.BTerm id name sound can =
-      sound_renamed tech library cap d kind.BTerm bterm_name refl name id
-      (λ x is. record { name = can.lawful; direction = is.direction; kept = is.kept; pins = is.pins }) (λ x. refl) can.live can.free sound
-  sound_rename kind.Row id name sound can =
-      sound_renamed tech library cap d kind.Row row_name refl name id
-      (λ x is. let f = is.fields in record {
-        fields = record { name = can.lawful; site_from_one = f.site_from_one; site = f.site; x = f.x; y = f.y; nx = f.nx; ny = f.ny; sx = f.sx; sy = f.sy; repeated = f.repeated };
-        props = is.props;
-      }) (λ x. refl) can.live can.free sound
-  sound_rename kind.Region id name sound can = sound_renamed tech library cap d kind.Region region_name refl name id (λ x is. is) (λ x. refl) can.live can.free sound
-  sound_rename kind.Group id name sound can = sound_renamed tech library cap d kind.Group group_name refl name id (λ x is. is) (λ x. refl) can.live can.free sound
-  sound_rename other id name sound can = absurd (false≢true can.kind)
+  sound_rename kind.Inst id name sound can = renamed_sound kind.Inst (laws kind.Inst).name refl (may_be_named kind.Inst (parts_by tech library d.header)) id name can.lawful can.live can.free sound
+  sound_rename k id name sound can = renamed_sound k (laws k).name refl (may_be_named k (parts_by tech library d.header)) id name can.lawful can.live can.free sound
 
   pub freed_name : (k : Kind) (id : ℕ) (name : List ℕ) → IsSound tech library cap d → CanRename d k id name → IsFreeBut k id (unwrap_or (name_in k id d) []) (with_name k id name d)
-  freed_name kind.Inst id name sound can = freed kind.Inst inst_name name id d can.live (sound.kinds kind.Inst).named
-  freed_name kind.Net id name sound can = freed kind.Net net_name name id d can.live (sound.kinds kind.Net).named
-  freed_name kind.BTerm id name sound can = freed kind.BTerm bterm_name name id d can.live (sound.kinds kind.BTerm).named
-  freed_name kind.Row id name sound can = freed kind.Row row_name name id d can.live (sound.kinds kind.Row).named
-  freed_name kind.Region id name sound can = freed kind.Region region_name name id d can.live (sound.kinds kind.Region).named
-  freed_name kind.Group id name sound can = freed kind.Group group_name name id d can.live (sound.kinds kind.Group).named
-  freed_name other id name sound can = absurd (false≢true can.kind)
+  freed_name kind.Inst id name sound can = freed kind.Inst (laws kind.Inst).name id name d can.live (sound.kinds kind.Inst).named
+  freed_name k id name sound can = freed k (laws k).name id name d can.live (sound.kinds k).named
 
 module _ (d : Block) where
   pub back_place : (k : Kind) (id : ℕ) (place : Placement) → with_place k id (unwrap_or (place_in k id d) unplaced) (with_place k id place d) ≡ d
@@ -103,13 +106,8 @@ module _ (d : Block) where
   back_special id plain = ap (λ o. with_special id (unwrap_or o false) (with_special id true d)) (sym plain) ∙ field_back NetSpecial id true false d
 
   pub back_rename : (k : Kind) (id : ℕ) (name : List ℕ) → with_name k id (unwrap_or (name_in k id d) []) (with_name k id name d) ≡ d
-  back_rename kind.Inst id name = entry_back kind.Inst inst_name id name [] d
-  back_rename kind.Net id name = entry_back kind.Net net_name id name [] d
-  back_rename kind.BTerm id name = entry_back kind.BTerm bterm_name id name [] d
-  back_rename kind.Row id name = entry_back kind.Row row_name id name [] d
-  back_rename kind.Region id name = entry_back kind.Region region_name id name [] d
-  back_rename kind.Group id name = entry_back kind.Group group_name id name [] d
-  back_rename other id name = refl
+  back_rename kind.Inst id name = renamed_back kind.Inst (laws kind.Inst).name id name d
+  back_rename k id name = renamed_back k (laws k).name id name d
 
   -- who was there is there
   pub live_placed : (k : Kind) (id : ℕ) (place : Placement) → IsTrue (live_in k id d) → IsTrue (live_in k id (with_place k id place d))
@@ -129,10 +127,5 @@ module _ (d : Block) where
   live_special id special live = live_stays kind.Net ((field NetSpecial).part.set special) id d kind.Net id live
 
   pub live_renamed : (k : Kind) (id : ℕ) (name : List ℕ) → IsTrue (live_in k id d) → IsTrue (live_in k id (with_name k id name d))
-  live_renamed kind.Inst id name live = live_stays kind.Inst (inst_name.set name) id d kind.Inst id live
-  live_renamed kind.Net id name live = live_stays kind.Net (net_name.set name) id d kind.Net id live
-  live_renamed kind.BTerm id name live = live_stays kind.BTerm (bterm_name.set name) id d kind.BTerm id live
-  live_renamed kind.Row id name live = live_stays kind.Row (row_name.set name) id d kind.Row id live
-  live_renamed kind.Region id name live = live_stays kind.Region (region_name.set name) id d kind.Region id live
-  live_renamed kind.Group id name live = live_stays kind.Group (group_name.set name) id d kind.Group id live
-  live_renamed other id name live = live
+  live_renamed kind.Inst id name live = live_named kind.Inst (laws kind.Inst).name id name d live
+  live_renamed k id name live = live_named k (laws k).name id name d live

@@ -1,32 +1,29 @@
 -- An instance gets another master: the block stays sound, and the way back leads to it.
-use Rattle.std.proofs.Common.{◌≡◌, ◌≢◌, ◌+◌, ◌-◌, ◌<◌, ◌≤◌, ◌⊎◌, List, [], ◌∷◌, ◌++◌, ℕ, Option, Some, None, IsTrue, is_some, eqb, false, get_or, length, length-append, slice_get, zero-add, refl, sym, ap, subst, ◌∙◌, arith, inl, inr}
+use Rattle.std.proofs.Common.{◌≡◌, ◌≢◌, ◌+◌, ◌-◌, ◌<◌, ◌≤◌, ◌⊎◌, List, ℕ, Option, Some, None, is_some, eqb, false, get_or, length, length-append, slice_get, zero-add, refl, sym, ap, subst, ◌∙◌, arith, inl, inr}
 use Rattle.std.specs.Option.{option_and_then, option_map, option_map_or}
 use Rattle.std.proofs.lemmas.Bool.{cases_eq}
 use Rattle.std.proofs.lemmas.Bool.Decides.{nat_tests}
 use Rattle.std.proofs.lemmas.List.{ext_get_or, length-map}
-use Rattle.slot_pool.specs.Table.{Table, is_live, record_at}
+use Rattle.slot_pool.specs.Table.{Table, record_at}
 use Rattle.odb_base.specs.declared.codes.kind.Kind.TheVariants as kind
 use Rattle.block_records.specs.declared.iterm.ITermRec.{ITermRec}
 use Rattle.tech.specs.Technology.{Technology}
 use Rattle.library.specs.Masters.{master_at}
-use Rattle.library.specs.Terminals.{HasDistinctTerminals}
 use Rattle.library.specs.declared.master.Master.{Master}
 use Rattle.edit_words.specs.Tag.{tag_of}
-use Rattle.edit_words.specs.declared.memo.Memo.{Memo}
 use Rattle.edit_words.specs.declared.step.Step.TheVariants as step
 use Rattle.block_store.specs.declared.entry.InstEntry.{InstEntry}
 use Rattle.block_store.specs.Block.{Block}
 use Rattle.block_store.specs.Lists.{list_in, on_record}
-use Rattle.block_store.specs.Instances.{IsInst, term_count}
-use Rattle.block_store.specs.Sound.{IsSound, inst_terms, iterm_net, iterm_place}
-use Rattle.block_store.specs.Tables.{AreEach}
+use Rattle.block_store.specs.Instances.{IsInst}
+use Rattle.block_store.specs.Sound.{IsSound, inst_terms, iterm_place}
 use Rattle.block_store.specs.TermPlaces.{ArePlaced}
 use Rattle.block_store.proofs.Joined.{none_is, shown_by, some_is, terms_placed}
-use Rattle.block_store.proofs.Shown.{LiveRecord, each_on, live_by, live_on, live_record, named_stands, table_on, view_at_on, view_on}
+use Rattle.block_store.proofs.Shown.{each_on, live_by, live_on, named_stands, table_on, view_at_on, view_on}
 use Rattle.library.proofs.TerminalNames.{found_terminals_are_named}
 use Rattle.block_store.proofs.TableLemmas.{at_on, at_on_other, on_on, on_same}
-use Rattle.steps_net.specs.Back.{Came, back, master_of, memo_of, terminals_moved}
-use Rattle.steps_net.specs.Can.{CanSwap, HaveSameTerms, inst_master}
+use Rattle.steps_net.specs.Back.{back, master_of, memo_of}
+use Rattle.steps_net.specs.Can.{CanSwap, inst_master}
 use Rattle.steps_net.specs.Do.{do_step, fresh_iterm, reordered, reordered_by, swapped, terms_given}
 use Rattle.steps_net.specs.Laws.{KeepNames}
 use Rattle.steps_net.specs.Terms.{CanExchange, CanSwapFor}
@@ -284,12 +281,6 @@ module _ (tech : Technology) (library : List Master) (cap : ℕ) (d : Block) (in
       subst (λ m. CanSwapFor inst m new d) (some_is can.old old (sym can.is_old ∙ is_old))
       (subst (λ m. CanSwapFor inst can.old m d) (some_is can.new new (sym can.is_new ∙ is_new)) (can_swap_found sound can))
 
-  -- the call makes of the block what the step does
-  pub swap_does : (old new : Master) → inst_master library d inst ≡ Some old → master_at library master ≡ Some new → swapped inst master (reordered old new (inst_terms d inst)) d ≡ do_step library (step.Swap inst master) d
-  swap_does old new is_old is_new =
-      sym (ap (λ o. swapped inst master (reordered_by o (master_at library master) (inst_terms d inst)) d) is_old
-      ∙ ap (λ o. swapped inst master (reordered_by (Some old) o (inst_terms d inst)) d) is_new)
-
   pub back_swap : IsSound tech library cap d → CanSwap library d inst master
       → back (tag_of (step.Swap inst master)) (memo_of (step.Swap inst master) d) (do_step library (step.Swap inst master) d) ≡ d
   back_swap sound can =
@@ -312,6 +303,3 @@ module _ (tech : Technology) (library : List Master) (cap : ℕ) (d : Block) (in
             view_indexed is_some (λ index r. refl) 0 order d.iterm id ∙ live_by d.iterm id r.value r.is;
         few = rw (slots_indexed 0 order d.iterm) (terms_few sound);
       })
-
-  pub came_swap : (m : Memo) (c : Block) → Came tech library cap d (step.Swap inst master) m c → CanExchange inst (terminals_moved m) c
-  came_swap m c came = rw (came.memo, came.after) (can_exchange_back came.sound came.can)

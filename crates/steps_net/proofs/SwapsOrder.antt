@@ -1,5 +1,5 @@
 -- Terminals in the order of another master.
-use Rattle.std.proofs.Common.{◌≡◌, ◌≢◌, ◌+◌, ◌<◌, ◌≤◌, ◌⊎◌, true, false, cond, eqb, List, [], ◌∷◌, ◌++◌, ℕ, zero, suc, Option, Some, None, IsSome, get_or, length, map, slice_get, take, unwrap_or, refl, sym, ap, ◌∙◌, arith, inl, inr}
+use Rattle.std.proofs.Common.{◌≡◌, ◌≢◌, ◌+◌, ◌<◌, ◌≤◌, ◌⊎◌, true, eqb, List, [], ◌∷◌, ◌++◌, ℕ, zero, suc, Option, Some, None, IsSome, get_or, length, map, slice_get, take, unwrap_or, refl, sym, ap, ◌∙◌, arith, inl, inr}
 use Rattle.std.specs.Option.{option_map}
 use Rattle.std.proofs.lemmas.Bool.{cases_Bool, cases_eq, cases_lt}
 use Rattle.std.proofs.lemmas.List.{get_or_past, map-append, take_more}
@@ -11,8 +11,8 @@ use Rattle.library.specs.Terminals.{HasDistinctTerminals, term_index, term_name}
 use Rattle.library.specs.declared.master.Master.{Master}
 use Rattle.library.specs.declared.mterm.MTerm.{MTerm}
 use Rattle.library.proofs.TerminalNames.{found_terminals_are_named, named_terminals_are_found}
-use Rattle.block_store.proofs.Held.{held_times, times_held, times_without, times_without_other}
-use Rattle.block_store.proofs.Joined.{Shows, none_is, shown_by, some_is}
+use Rattle.block_store.proofs.Held.{held_times, times_without, times_without_other}
+use Rattle.block_store.proofs.Joined.{none_is, shown_by, some_is}
 use Rattle.steps_net.specs.Can.{HaveSameTerms}
 use Rattle.steps_net.specs.Do.{reordered}
 use Rattle.steps_net.proofs.InstancesTerms.{somewhere_or_not}

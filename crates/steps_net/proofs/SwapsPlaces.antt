@@ -1,7 +1,6 @@
 -- Terminals that get new places among those of their instance.
-use Rattle.std.proofs.Common.{◌≡◌, ◌≢◌, ◌+◌, ◌<◌, List, [], ◌∷◌, ℕ, zero, suc, Option, Some, None, IsTrue, drop, get_or, length, slice_get, refl, sym, ap, ◌∙◌, arith, inl, inr}
-use Rattle.std.specs.Option.{option_map, option_map_or}
-use Rattle.std.proofs.lemmas.Bool.{cases_eq}
+use Rattle.std.proofs.Common.{◌≡◌, ◌≢◌, ◌+◌, ◌<◌, List, [], ◌∷◌, ℕ, zero, suc, Option, Some, None, IsTrue, drop, get_or, length, slice_get, refl, sym, ap, ◌∙◌, arith}
+use Rattle.std.specs.Option.{option_map}
 use Rattle.std.proofs.lemmas.Option.{slice_get-get_or}
 use Rattle.slot_pool.specs.Table.{Table, is_live, record_at}
 use Rattle.block_records.specs.declared.iterm.ITermRec.{ITermRec}

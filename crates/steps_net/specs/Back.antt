@@ -2,7 +2,7 @@
 -- that it led to.
 use Rattle.std.specs.Prelude.{◌≡◌, ◌≤◌, ◌+◌, ◌-◌, Bool, true, false, List, [], ◌∷◌, ℕ, zero, suc, Option, None, Some, length, unwrap_or}
 use Rattle.std.specs.Option.{option_map_or}
-use Rattle.slot_pool.specs.Table.{Table, record_at, taken, untaken}
+use Rattle.slot_pool.specs.Table.{Table, record_at, untaken}
 use Rattle.odb_base.specs.Ids.{after, placed, without}
 use Rattle.odb_base.specs.declared.codes.direction.Direction.{Direction}
 use Rattle.odb_base.specs.declared.codes.direction.Direction.TheVariants as direction
@@ -11,12 +11,11 @@ use Rattle.odb_base.specs.declared.codes.kind.Kind.TheVariants as kind
 use Rattle.odb_base.specs.declared.codes.usage.Usage.{Usage}
 use Rattle.odb_base.specs.declared.codes.usage.Usage.TheVariants as usage
 use Rattle.odb_base.specs.declared.geometry.Placement.{Placement}
-use Rattle.block_records.specs.declared.inst.InstRec.{InstRec}
 use Rattle.block_records.specs.declared.iterm.ITermRec.{ITermRec}
 use Rattle.block_records.specs.declared.record.Record.{Record}
 use Rattle.block_records.specs.declared.record.Record.TheVariants as rec
 use Rattle.library.specs.declared.master.Master.{Master}
-use Rattle.edit_words.specs.Tag.{tag_of}
+use Rattle.edit_words.specs.Tag.{new_at, tag_of}
 use Rattle.edit_words.specs.declared.memo.Memo.{Memo}
 use Rattle.edit_words.specs.declared.memo.Memo.TheVariants as memo
 use Rattle.edit_words.specs.declared.step.Step.{Step}
@@ -45,12 +44,14 @@ abbrev pub removed : Option Record → Memo
 removed None = memo.Nothing
 removed (Some record_moved) = memo.Record record_moved None
 
+-- what is moved out where a new object comes, if there is one: whether its slot was added to its table
+abbrev pub grown_by : Option (Kind × ℕ) → Block → Memo
+grown_by None b = memo.Nothing
+grown_by (Some new) b = memo.Grown (is_empty (free_in new.0 b)) 0
+
 -- what a step moves out of a block
 abbrev pub memo_of : Step → Block → Memo
 memo_of (step.NewInst id name master terminals) b = memo.Grown (is_empty b.inst.free) (length terminals - length b.iterm.free)
-memo_of (step.NewNet id name) b = memo.Grown (is_empty b.net.free) 0
-memo_of (step.NewBTerm id name) b = memo.Grown (is_empty b.bterm.free) 0
-memo_of (step.NewRow id row) b = memo.Grown (is_empty b.row.free) 0
 memo_of (step.Del k id) b = removed (record_of k id b)
 memo_of (step.Rename k id name) b = memo.Name (unwrap_or (name_in k id b) [])
 memo_of (step.Swap inst master) b = memo.Swapped (master_of b inst) (inst_terms b inst)
@@ -60,6 +61,7 @@ memo_of (step.SetDir bterm new) b = memo.Direction (unwrap_or (direction_in bter
 memo_of (step.MakeSpecial net) b = memo.Nothing
 memo_of (step.Join k id net) b = memo.Nothing
 memo_of (step.Part k id net) b = memo.Next (after (net_terms b net) (term_number k id))
+memo_of other b = grown_by (new_at (tag_of other)) b
 
 -- The parts of a memo. A memo that has no such part gives a first value.
 
@@ -131,12 +133,14 @@ abbrev pub unmade : ℕ → Bool → ℕ → Block → Block
 unmade id grew grown c =
     untaken_in kind.Inst id grew (record c { iterm = terms_untaken (length (inst_terms c id) - grown) (inst_terms c id) c.iterm })
 
+-- a new object taken back, where there is one
+abbrev pub unmade_at : Option (Kind × ℕ) → Bool → Block → Block
+unmade_at None grew c = c
+unmade_at (Some new) grew c = untaken_in new.0 new.1 grew c
+
 -- the block before the step
 abbrev pub back : Tag → Memo → Block → Block
 back (tag.NewInst id master) m c = unmade id (grew_of m) (grown_of m) c
-back (tag.NewNet id) m c = untaken_in kind.Net id (grew_of m) c
-back (tag.NewBTerm id) m c = untaken_in kind.BTerm id (grew_of m) c
-back (tag.NewRow id) m c = untaken_in kind.Row id (grew_of m) c
 back (tag.Del k id) m c = undeleted id (record_moved m) c
 back (tag.Rename k id) m c = with_name k id (name_moved m) c
 back (tag.Swap inst) m c = swapped inst (master_moved m) (terminals_moved m) c
@@ -146,6 +150,7 @@ back (tag.SetDir bterm) m c = with_direction bterm (direction_moved m) c
 back (tag.MakeSpecial net) m c = with_special net false c
 back (tag.Join k id net) m c = with_net k id 0 (on_list (without (term_number k id)) (list.Terms (record { 0 = net })) c)
 back (tag.Part k id net) m c = with_net k id net (on_list (placed (term_number k id) (next_moved m)) (list.Terms (record { 0 = net })) c)
+back other m c = unmade_at (new_at other) (grew_of m) c
 
 -- the step led from the block d, which was sound, to the block c, and moved the memo out
 pub record Came (tech : Technology) (library : List Master) (cap : ℕ) (d : Block) (s : Step) (m : Memo) (c : Block) : Type 0 where

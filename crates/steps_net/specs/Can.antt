@@ -1,28 +1,33 @@
 -- When an elementary step may be done. The cap of the tables is no part of it.
-use Rattle.std.specs.Prelude.{◌≡◌, ◌<◌, ◌≤◌, ◌↔◌, Bool, true, false, List, [], ◌∷◌, ℕ, Option, None, Some, IsSome, IsTrue, length, slice_get}
+use Rattle.std.specs.Prelude.{◌≡◌, ◌≤◌, ◌↔◌, false, List, [], ℕ, Option, None, Some, IsSome, IsTrue, length, slice_get}
 use Rattle.std.specs.Option.{option_and_then}
 use Rattle.slot_pool.specs.Table.{Table, is_live, next_id, record_at}
 use Rattle.odb_base.specs.Name.{IsName}
 use Rattle.odb_base.specs.declared.codes.kind.Kind.{Kind}
 use Rattle.odb_base.specs.declared.codes.kind.Kind.TheVariants as kind
-use Rattle.odb_base.specs.declared.codes.direction.Direction.{Direction}
 use Rattle.odb_base.specs.declared.geometry.Placement.{Placement}
 use Rattle.library.specs.Masters.{master_at}
 use Rattle.library.specs.Terminals.{term_index}
 use Rattle.library.specs.declared.master.Master.{Master}
 use Rattle.tech.specs.Technology.{Technology}
-use Rattle.block_records.specs.declared.row.RowRec.{RowRec}
+use Rattle.block_records.specs.Record.{kind_of}
+use Rattle.block_records.specs.declared.record.Record.{Record}
+use Rattle.block_records.specs.declared.record.Record.TheVariants as rec
+use Rattle.edit_words.specs.Tag.{NewObject, new_object}
 use Rattle.edit_words.specs.declared.step.Step.{Step}
 use Rattle.edit_words.specs.declared.step.Step.TheVariants as step
+use Rattle.block_store.specs.Alone.{IsNew}
 use Rattle.block_store.specs.Block.{Block, live_in, next_in}
 use Rattle.block_store.specs.Fields.{HasPlace, HasUsage, net_in, special_in}
-use Rattle.block_store.specs.Lists.{list_in}
 use Rattle.block_store.specs.Names.{HasNames, IsFree}
 use Rattle.block_store.specs.BlockTerminals.{IsBTermDirection}
 use Rattle.block_store.specs.Instances.{term_count}
+use Rattle.block_store.specs.KindLaws.{Parts}
+use Rattle.block_store.specs.Kinds.{Entry}
+use Rattle.block_store.specs.Moves.{new_bterm, new_group, new_inst, new_net, new_region, new_row}
 use Rattle.block_store.specs.Placements.{IsPlacement}
-use Rattle.block_store.specs.Rows.{IsRowRec}
 use Rattle.block_store.specs.Sound.{inst_terms, iterm_net, net_terms}
+use Rattle.block_store.specs.View.{laws}
 
 -- these are the identifiers that a table gives next, in their order
 abbrev pub AreNext : {A : Type 0} → List ℕ → Table A → Type 0
@@ -41,24 +46,44 @@ pub record CanNewInst (library : List Master) (b : Block) (id : ℕ) (name : Lis
   pub fitted : term_count library master ≡ Some (length terminals)
   pub terms : AreNext terminals b.iterm
 
--- a new row: the identifier is the next one, its fields are lawful, and no row has the name
-pub record CanNewRow (tech : Technology) (b : Block) (id : ℕ) (row : RowRec) : Type 0 where
-  pub next : id ≡ next_in kind.Row b
-  pub lawful : IsRowRec tech row
-  pub free : IsFree kind.Row row.name b
+-- a record as the entry of a new object, which has empty lists
+abbrev pub new_entry : (r : Record) → Entry (kind_of r)
+new_entry (rec.Inst r) = new_inst r
+new_entry (rec.ITerm r) = r
+new_entry (rec.Net r) = new_net r
+new_entry (rec.BTerm r) = new_bterm r
+new_entry (rec.Pin r) = r
+new_entry (rec.Row r) = new_row r
+new_entry (rec.Track r) = r
+new_entry (rec.Wire r) = r
+new_entry (rec.Blockage r) = r
+new_entry (rec.Region r) = new_region r
+new_entry (rec.Group r) = new_group r
+new_entry (rec.Prop r) = r
+
+-- a new object of any kind: the identifier is the next one, it is lawful beside the technology, the library and the
+-- header, and no object of the kind has its name
+pub record CanMake (parts : Parts) (b : Block) (new : NewObject) : Type 0 where
+  pub next : new.id ≡ next_in (kind_of new.object) b
+  pub lawful : (laws (kind_of new.object)).Is parts (new_entry new.object)
+  pub free : IsNew new.object b
+
+-- there is a new object, and it can be made
+abbrev pub CanNew : Parts → Block → Option NewObject → Type 0
+CanNew parts b None = ⊥
+CanNew parts b (Some new) = CanMake parts b new
 
 -- none of these instance terminals is joined
 abbrev pub AreUnjoined : List ℕ → Block → Type 0
 AreUnjoined terminals b = (k id : ℕ) → slice_get terminals k ≡ Some id → iterm_net b id ≡ 0
 
--- An object goes on which nothing hangs. A terminal of an instance goes only with it.
+-- An object goes on which nothing hangs, and which hangs on nothing. A terminal of an instance goes only with it.
 abbrev pub CanDel : Block → Kind → ℕ → Type 0
 CanDel b kind.Inst id = IsTrue (is_live b.inst id) × AreUnjoined (inst_terms b id) b
 CanDel b kind.ITerm id = ⊥
 CanDel b kind.Net id = IsTrue (is_live b.net id) × (net_terms b id ≡ [])
 CanDel b kind.BTerm id = net_in kind.BTerm id b ≡ Some 0
-CanDel b kind.Row id = IsTrue (is_live b.row id)
-CanDel b other id = ⊥
+CanDel b other id = IsTrue (live_in other id b)
 
 -- another name for an object of a kind with names, which no object of the kind has
 pub record CanRename (b : Block) (k : Kind) (id : ℕ) (name : List ℕ) : Type 0 where
@@ -107,9 +132,6 @@ pub record CanPart (b : Block) (k : Kind) (id net : ℕ) : Type 0 where
 -- the step may be done
 abbrev pub Can : Technology → List Master → Block → Step → Type 0
 Can tech library b (step.NewInst id name master terminals) = CanNewInst library b id name master terminals
-Can tech library b (step.NewNet id name) = CanName kind.Net b id name
-Can tech library b (step.NewBTerm id name) = CanName kind.BTerm b id name
-Can tech library b (step.NewRow id row) = CanNewRow tech b id row
 Can tech library b (step.Del k id) = CanDel b k id
 Can tech library b (step.Rename k id name) = CanRename b k id name
 Can tech library b (step.Swap inst master) = CanSwap library b inst master
@@ -119,3 +141,4 @@ Can tech library b (step.SetDir bterm direction) = IsTrue (is_live b.bterm bterm
 Can tech library b (step.MakeSpecial net) = special_in net b ≡ Some false
 Can tech library b (step.Join k id net) = CanJoin b k id net
 Can tech library b (step.Part k id net) = CanPart b k id net
+Can tech library b other = CanNew (record { tech = tech; library = library; header = b.header }) b (new_object other)

@@ -1,26 +1,22 @@
 -- What an elementary step makes of a block: the very moves of its tables, lists and fields.
-use Rattle.std.specs.Prelude.{◌+◌, true, false, List, [], ◌∷◌, ℕ, Option, None, Some, map, slice_index_or, unwrap_or}
-use Rattle.std.specs.Option.{option_map_or}
-use Rattle.slot_pool.specs.Table.{Table, given, record_at, taken}
+use Rattle.std.specs.Prelude.{◌+◌, true, List, [], ◌∷◌, ℕ, Option, None, Some, map, slice_index_or, unwrap_or}
+use Rattle.slot_pool.specs.Table.{Table, given, taken}
 use Rattle.odb_base.specs.Ids.{without}
-use Rattle.odb_base.specs.declared.codes.direction.Direction.TheVariants as direction
 use Rattle.odb_base.specs.declared.codes.kind.Kind.{Kind}
 use Rattle.odb_base.specs.declared.codes.kind.Kind.TheVariants as kind
-use Rattle.odb_base.specs.declared.codes.usage.Usage.TheVariants as usage
-use Rattle.block_records.specs.declared.bterm.BTermRec.{BTermRec}
 use Rattle.block_records.specs.declared.inst.InstRec.{InstRec}
 use Rattle.block_records.specs.declared.iterm.ITermRec.{ITermRec}
-use Rattle.block_records.specs.declared.net.NetRec.{NetRec}
 use Rattle.block_records.specs.declared.record.Record.TheVariants as rec
 use Rattle.library.specs.Masters.{master_at}
 use Rattle.library.specs.Terminals.{term_index}
 use Rattle.library.specs.declared.master.Master.{Master}
+use Rattle.edit_words.specs.Tag.{NewObject, new_object}
 use Rattle.edit_words.specs.declared.step.Step.{Step}
 use Rattle.edit_words.specs.declared.step.Step.TheVariants as step
 use Rattle.block_store.specs.declared.list_of.ListOf.TheVariants as list
 use Rattle.block_store.specs.Block.{Block}
 use Rattle.block_store.specs.Lists.{on_list, term_number}
-use Rattle.block_store.specs.Moves.{given_in, new_inst, taken_in, with_direction, with_index, with_master, with_name, with_net, with_place, with_special, with_terminals, with_usage}
+use Rattle.block_store.specs.Moves.{given_in, taken_in, with_direction, with_index, with_master, with_name, with_net, with_place, with_special, with_terminals, with_usage}
 use Rattle.block_store.specs.Placements.{unplaced}
 use Rattle.block_store.specs.Sound.{inst_terms}
 use Rattle.steps_net.specs.Can.{inst_master}
@@ -32,14 +28,6 @@ fresh_inst name master terminals = record { name = name; master = master; place 
 -- a new terminal of an instance is joined to nothing
 abbrev pub fresh_iterm : ℕ → ℕ → ITermRec
 fresh_iterm inst index = record { inst = inst; index = index; net = 0 }
-
--- a new net has no use and isn't special
-abbrev pub fresh_net : List ℕ → NetRec
-fresh_net name = record { name = name; usage = usage.None; special = false; kept = []; special_kept = [] }
-
--- a new block terminal is joined to nothing and has no direction and no use
-abbrev pub fresh_bterm : List ℕ → BTermRec
-fresh_bterm name = record { name = name; net = 0; direction = direction.None; usage = usage.None; kept = [] }
 
 -- a terminal is taken for each identifier, with the places from `index` on
 abbrev pub terms_taken : ℕ → ℕ → List ℕ → Table ITermRec → Table ITermRec
@@ -75,13 +63,15 @@ reordered_by (Some old) None terminals = terminals
 abbrev pub swapped : ℕ → ℕ → List ℕ → Block → Block
 swapped inst master terminals b = terms_indexed 0 terminals (with_terminals inst terminals (with_master inst master b))
 
+-- the block with the new object, where there is one
+abbrev pub made_in : Option NewObject → Block → Block
+made_in None b = b
+made_in (Some new) b = taken_in new.object b
+
 -- the block after a step
 abbrev pub do_step : List Master → Step → Block → Block
 do_step library (step.NewInst id name master terminals) b =
     taken_in (rec.Inst (fresh_inst name master terminals)) (record b { iterm = terms_taken id 0 terminals b.iterm })
-do_step library (step.NewNet id name) b = taken_in (rec.Net (fresh_net name)) b
-do_step library (step.NewBTerm id name) b = taken_in (rec.BTerm (fresh_bterm name)) b
-do_step library (step.NewRow id row) b = taken_in (rec.Row row) b
 do_step library (step.Del k id) b = deleted k id b
 do_step library (step.Rename k id name) b = with_name k id name b
 do_step library (step.Swap inst master) b = swapped inst master (reordered_by (inst_master library b inst) (master_at library master) (inst_terms b inst)) b
@@ -91,6 +81,7 @@ do_step library (step.SetDir bterm direction) b = with_direction bterm direction
 do_step library (step.MakeSpecial net) b = with_special net true b
 do_step library (step.Join k id net) b = with_net k id net (on_list (λ terms. term_number k id ∷ terms) (list.Terms (record { 0 = net })) b)
 do_step library (step.Part k id net) b = with_net k id 0 (on_list (without (term_number k id)) (list.Terms (record { 0 = net })) b)
+do_step library other b = made_in (new_object other) b
 
 -- the block after steps that are done in order
 abbrev pub do_all : List Master → List Step → Block → Block

@@ -1,4 +1,4 @@
-use Rattle.std.proofs.Common.{◌≡◌, refl, subst, sym}
+use Rattle.std.proofs.Common.{◌≡◌, subst}
 use Rattle.block_store.specs.Block.{next_in}
 use Rattle.block_store.specs.Names.{find_in}
 use Rattle.block_steps.proofs.Judged.{nameable}

@@ -1,4 +1,4 @@
-use Rattle.std.proofs.Common.{◌≡◌, refl, subst}
+use Rattle.std.proofs.Common.{◌≡◌, subst}
 use Rattle.block_store.specs.Names.{find_in}
 use Rattle.block_steps.proofs.Judged.{renameable}
 use Rattle.block_steps.proofs.judging.can_rename.Goals as goal

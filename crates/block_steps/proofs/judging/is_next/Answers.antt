@@ -1,4 +1,4 @@
-use Rattle.std.proofs.Common.{◌≡◌, ◌<◌, ◌≤◌, length, arith}
+use Rattle.std.proofs.Common.{◌<◌, ◌≤◌, length, arith}
 use Rattle.slot_pool.specs.Table.{next_id}
 use Rattle.block_steps.proofs.Judged.{next_far}
 use Rattle.block_steps.proofs.judging.is_next.Goals as goal

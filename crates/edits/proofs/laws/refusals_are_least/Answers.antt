@@ -1,4 +1,4 @@
-use Rattle.edits.proofs.LeastRefusals.{plans_unrefused, refuses_first}
+use Rattle.edits.proofs.Plans.{plans_unrefused, refuses_first}
 use Rattle.edits.proofs.OneRefusal.{first_is_planned}
 use Rattle.edits.proofs.laws.refusals_are_least.Goals as goal
 

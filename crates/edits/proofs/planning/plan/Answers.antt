@@ -1,4 +1,4 @@
-use Rattle.edits.proofs.Planned.{answered_can}
+use Rattle.edits.proofs.Plans.{answered_can}
 use Rattle.edits.proofs.Terminals.{few_in_library}
 use Rattle.edits.proofs.planning.plan.Goals as goal
 

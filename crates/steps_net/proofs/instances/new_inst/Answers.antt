@@ -1,4 +1,4 @@
-use Rattle.std.proofs.Common.{◌≡◌, ◌-◌, ◌≤◌, length, ap, ◌∙◌, arith}
+use Rattle.std.proofs.Common.{length, ap, ◌∙◌, arith}
 use Rattle.steps_net.specs.Do.{fresh_iterm}
 use Rattle.steps_net.proofs.InstancesLoops.{free_insts, memo_grown, slots_grown}
 use Rattle.steps_net.proofs.InstancesTerms.{free_within}

@@ -1,9 +1,7 @@
-use Rattle.std.proofs.Common.{◌≡◌, IsTrue, ap, sym, ◌∙◌}
+use Rattle.std.proofs.Common.{IsTrue, ap, ◌∙◌}
 use Rattle.slot_pool.specs.Table.{is_live}
 use Rattle.edit_words.specs.declared.memo.Memo.TheVariants as memo
-use Rattle.block_store.specs.Block.{Block}
 use Rattle.block_store.specs.Moves.{with_master, with_terminals}
-use Rattle.block_store.specs.Sound.{inst_terms}
 use Rattle.block_store.proofs.Shown.{live_on}
 use Rattle.steps_net.specs.Back.{master_of}
 use Rattle.steps_net.proofs.SwapsPlaces.{had_master, had_terms, live_after, swapped_is}
