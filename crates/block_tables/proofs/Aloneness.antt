@@ -1,16 +1,13 @@
 -- Names that one object alone holds, by how many hold them.
-use Rattle.std.proofs.Common.{◌≡◌, ◌+◌, ◌-◌, ◌<◌, ◌≤◌, zero, suc, cond, eqb, Bool, true, false, List, [], ◌∷◌, ℕ, Option, Some, None, IsTrue, ◌↔◌, count_by, length, get_or, min, refl, sym, ap, ◌∙◌, inl, inr, arith}
+use Rattle.std.proofs.Common.{◌≡◌, ◌+◌, ◌-◌, ◌<◌, ◌≤◌, zero, suc, cond, eqb, Bool, true, false, List, [], ◌∷◌, ℕ, Option, Some, None, count_by, length, get_or, refl, sym, ap, ◌∙◌, inl, inr, arith}
 use Rattle.std.specs.Option.{option_map}
-use Rattle.std.specs.Str.{bytes_eq}
 use Rattle.std.proofs.lemmas.Bool.{cases_Bool, cases_lt, false≢true}
 use Rattle.std.proofs.lemmas.Bool.Decides.{nat_tests}
-use Rattle.std.proofs.lemmas.List.{get_or_past}
 use Rattle.std.proofs.lemmas.List.Sums.{get_or-le-sum_by, sum_by-cons}
 use Rattle.std.proofs.lemmas.Slice.Eq.{bytes_eq-Decides}
 use Rattle.slot_pool.specs.Table.{Table, record_at}
 use Rattle.block_store.specs.Names.{is_named, name_by}
 use Rattle.block_tables.specs.Names.{IsAlone}
-use Rattle.block_tables.proofs.PartsOfSound.{some_id}
 use Rattle.block_tables.proofs.Standings.{past_none}
 
 module _ {A : Type 0} (passes : A → Bool) (d : A) where

@@ -1,9 +1,9 @@
 -- When a table is good, by counts of its free identifiers.
-use Rattle.std.proofs.Common.{◌≡◌, ◌+◌, ◌<◌, ◌≤◌, ◌==◌, zero, suc, eqb, Bool, true, false, List, [], ◌∷◌, ℕ, Option, Some, None, is_none, is_some, nat_le, not, All, length, get_or, min, refl, sym, ap, ◌∙◌, inl, inr, arith}
+use Rattle.std.proofs.Common.{◌≡◌, ◌+◌, ◌<◌, ◌≤◌, suc, eqb, Bool, true, false, List, [], ◌∷◌, ℕ, Option, Some, None, is_none, is_some, nat_le, not, All, length, get_or, min, refl, sym, ap, ◌∙◌, inl, inr, arith}
 use Rattle.std.proofs.lemmas.Bool.{cases_Bool, cases_lt, eqb-true, eqb-false}
 use Rattle.std.proofs.lemmas.Bool.Decides.{nat_tests}
 use Rattle.std.proofs.lemmas.List.{get_or_default}
-use Rattle.slot_pool.specs.Table.{Table, IsGood, is_vacant, once_if, times}
+use Rattle.slot_pool.specs.Table.{IsGood, is_vacant, once_if, times}
 use Rattle.slot_pool.proofs.Counts.{times_cons_other, vacant_within}
 use Rattle.slot_pool.proofs.GoodTables.{free_ids_are_vacant}
 use Rattle.block_store.proofs.Slots.{record_at_place}
@@ -83,13 +83,3 @@ module _ {A : Type 0} (slots : List (Option A)) (counts : List ℕ) where
         ap (λ n. get_or counts n 0) same ∙ here ∙ ap once_if (sym (vacant_at place slot within is ∙ empty_is slot empty so)) ∙ sym (ap (λ n. once_if (is_vacant slots n)) same)
     | inr before ↦ known id before
   ]
-
-vacant_nowhere : (A : Type 0) (id : ℕ) → is_vacant {A = A} [] id ≡ false
-vacant_nowhere A id = elim (cases_lt 0 id) [
-  | inl some ↦ past {A = A} [] [] [] id some
-  | inr low ↦ let none : id ≡ 0 = omega (arith, low) in ap (is_vacant {A = A} []) none
-]
-
--- a table without slots and free identifiers is good
-pub no_slots_good : (A : Type 0) → IsGood {A = A} (record { slots = []; free = [] })
-no_slots_good A id = sym (ap once_if (vacant_nowhere A id))

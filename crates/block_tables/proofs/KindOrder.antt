@@ -7,31 +7,11 @@ use Rattle.odb_base.specs.declared.codes.kind.Kind.TheVariants as kind
 -- a kind stands at its code's place
 place_of : (k : Kind) → get_or kinds (kind_code k - 1) kind.Inst ≡ k
 place_of kind.Inst = refl
-place_of kind.ITerm = refl
-place_of kind.Net = refl
-place_of kind.BTerm = refl
-place_of kind.Pin = refl
-place_of kind.Row = refl
-place_of kind.Track = refl
-place_of kind.Wire = refl
-place_of kind.Blockage = refl
-place_of kind.Region = refl
-place_of kind.Group = refl
-place_of kind.Prop = refl
+place_of k = refl
 
 pub codes_within : (k : Kind) → kind_code k ≤ 12
 codes_within kind.Inst = lit≤ tt
-codes_within kind.ITerm = lit≤ tt
-codes_within kind.Net = lit≤ tt
-codes_within kind.BTerm = lit≤ tt
-codes_within kind.Pin = lit≤ tt
-codes_within kind.Row = lit≤ tt
-codes_within kind.Track = lit≤ tt
-codes_within kind.Wire = lit≤ tt
-codes_within kind.Blockage = lit≤ tt
-codes_within kind.Region = lit≤ tt
-codes_within kind.Group = lit≤ tt
-codes_within kind.Prop = lit≤ tt
+codes_within k = lit≤ tt
 
 -- no two kinds have one code
 pub same_kind : (j k : Kind) → kind_code j ≡ kind_code k → j ≡ k

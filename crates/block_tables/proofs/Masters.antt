@@ -1,14 +1,11 @@
 -- Masters whose terminals have distinct names, master by master, and names that are distinct, by their holders.
-use Rattle.std.proofs.Common.{◌≡◌, ◌+◌, ◌-◌, ◌<◌, ◌≤◌, eqb, false, List, ℕ, Option, Some, None, IfSome, count_by, length, get_or, min, slice_get, refl, sym, ap, ◌∙◌, subst, inl, inr, arith}
+use Rattle.std.proofs.Common.{◌≡◌, ◌<◌, List, ℕ, Some, None, count_by, length, get_or, min, slice_get, sym, ap, ◌∙◌, inl, inr, arith}
 use Rattle.std.specs.Str.{bytes_eq}
-use Rattle.std.proofs.lemmas.Bool.{cases_Bool, cases_lt}
-use Rattle.std.proofs.lemmas.Bool.Decides.{nat_tests}
+use Rattle.std.proofs.lemmas.Bool.{cases_lt}
 use Rattle.std.proofs.lemmas.Option.{get_or_from_slice_get, slice_get-get_or, slice_get_past}
 use Rattle.std.proofs.lemmas.Slice.Eq.{bytes_eq-Decides}
 use Rattle.block_records.specs.Header.{new_header}
-use Rattle.library.specs.Masters.{master_at}
 use Rattle.named_list.specs.Naming.{AreNamesDistinct}
-use Rattle.library.specs.Terminals.{HasDistinctTerminals}
 use Rattle.library.specs.declared.master.Master.{Master}
 use Rattle.tech.specs.Technology.{Technology}
 use Rattle.block_store.specs.Block.{Block}
@@ -18,37 +15,6 @@ use Rattle.block_tables.proofs.Aloneness.{one_passes, same_place}
 
 pub sound_header : (tech : Technology) (library : List Master) (b : Block) → HasLawfulMasters library → b.header ≡ new_header → IsSoundHeader tech library b
 sound_header tech library b masters header = record { masters = masters; header = header }
-
-module _ (library : List Master) where
-  some_master : (id : ℕ) (o : Option Master) (P : Master → Type 0) → ((m : Master) → o ≡ Some m → P m) → IfSome o P
-  some_master id None P h = tt
-  some_master id (Some m) P h = h m refl
-
-  the_master : (o : Option Master) (P : Master → Type 0) (m : Master) → IfSome o P → o ≡ Some m → P m
-  the_master None P m h at = cc
-  the_master (Some x) P m h at = let same : x ≡ m = cc in subst P same h
-
-  no_master : (id : ℕ) → length library < id → master_at library id ≡ None
-  no_master id far =
-      let some : eqb id 0 ≡ false = grind (arith, nat_tests, far) in
-      rw some (slice_get_past library (id - 1) (omega arith))
-
-  -- each identifier's master, if it has one
-  pub each_of_lawful : HasLawfulMasters library → (id : ℕ) → IfSome (master_at library id) (λ m. HasDistinctTerminals m)
-  each_of_lawful lawful id = some_master id (master_at library id) (λ m. HasDistinctTerminals m) (lawful id)
-
-  pub lawful_of_each : ((id : ℕ) → id ≤ length library → IfSome (master_at library id) (λ m. HasDistinctTerminals m)) → HasLawfulMasters library
-  lawful_of_each each id m at = elim (cases_lt (length library) id) [
-    | inl far ↦ let none : None ≡ Some m = sym (no_master id far) ∙ at in cc
-    | inr near ↦ the_master (master_at library id) (λ m. HasDistinctTerminals m) m (each id near) at
-  ]
-
-  pub none_at_zero : (id : ℕ) → id ≤ 0 → IfSome (master_at library id) (λ m. HasDistinctTerminals m)
-  none_at_zero id h =
-      let zero : id ≡ 0 = omega (arith, h) in
-      let none : master_at library id ≡ None = ap (master_at library) zero in
-      let P : Option Master → Type 0 = λ o. IfSome o (λ m. HasDistinctTerminals m) in
-      subst P (sym none) tt
 
 module _ {A : Type 0} (name_of : A → List ℕ) (things : List A) where
   abbrev holders : List ℕ → ℕ

@@ -1,5 +1,5 @@
 -- The header of a new block, by its fields.
-use Rattle.std.proofs.Common.{◌≡◌, List, [], ℕ, Option, None, codes, refl}
+use Rattle.std.proofs.Common.{◌≡◌, List, [], ℕ, Option, None, codes}
 use Rattle.odb_base.specs.declared.geometry.Rect.{Rect}
 use Rattle.block_records.specs.Header.{new_header}
 use Rattle.block_records.specs.declared.header.BlockVia.{BlockVia}

@@ -1,5 +1,5 @@
 -- Soundness of a block by its parts, and the least place that isn't sound.
-use Rattle.std.proofs.Common.{◌≡◌, ◌≤◌, List, ℕ, Option, Some, None, inl, inr, arith}
+use Rattle.std.proofs.Common.{List, ℕ, Option, Some, None, inl, inr, arith}
 use Rattle.std.proofs.lemmas.Bool.{cases_lt}
 use Rattle.odb_base.specs.declared.codes.kind.Kind.{Kind}
 use Rattle.library.specs.declared.master.Master.{Master}

@@ -1,30 +1,34 @@
 -- The records of a sound block are sound.
-use Rattle.std.proofs.Common.{◌≡◌, ◌≢◌, ◌+◌, ◌*◌, ◌%◌, ◌/◌, ◌<◌, ◌≤◌, ◌==◌, true, false, cond, eqb, eq-eqb, List, [], ◌∷◌, ℕ, Option, Some, None, IfSome, if◌then◌else◌, slice_get, refl, sym, ap, ◌∙◌, subst, inl, inr, arith}
+use Rattle.std.proofs.Common.{◌≡◌, Bool, ◌+◌, ◌*◌, ◌%◌, ◌/◌, ◌≤◌, true, false, eqb, eq-eqb, List, ℕ, Option, Some, None, IfSome, slice_get, refl, sym, ap, ◌∙◌, subst, inl, inr, arith}
 use Rattle.std.specs.Option.{option_map, option_map_or}
 use Rattle.std.proofs.lemmas.Bool.{cases_Bool, cases_eq}
 use Rattle.std.proofs.lemmas.Bool.Decides.{nat_tests}
 use Rattle.odb_base.specs.declared.codes.kind.Kind.{Kind}
 use Rattle.odb_base.specs.declared.codes.kind.Kind.TheVariants as kind
-use Rattle.slot_pool.specs.Table.{Table, once_if, record_at, record_in, times}
+use Rattle.slot_pool.specs.Table.{Table, once_if, record_at, times}
 use Rattle.block_records.specs.declared.iterm.ITermRec.{ITermRec}
 use Rattle.library.specs.declared.master.Master.{Master}
 use Rattle.tech.specs.Technology.{Technology}
 use Rattle.block_store.specs.declared.entry.BTermEntry.{BTermEntry}
 use Rattle.block_store.specs.declared.entry.InstEntry.{InstEntry}
 use Rattle.block_store.specs.declared.entry.NetEntry.{NetEntry}
-use Rattle.block_store.specs.declared.entry.RowEntry.{RowEntry}
-use Rattle.block_store.specs.Block.{Block}
+use Rattle.block_store.specs.Block.{Block, empty_table}
+use Rattle.block_store.specs.Kinds.{Entry, table_of}
+use Rattle.block_store.specs.Lens.{Lens}
 use Rattle.block_store.specs.Lists.{bterm_number, iterm_number, list_in}
-use Rattle.block_store.specs.Sound.{IsSound, bterm_net, inst_terms, iterm_net, iterm_place, net_terms}
-use Rattle.block_store.specs.Tables.{AreNamed}
+use Rattle.block_store.specs.Sound.{IsSound, bterm_net, iterm_net, net_terms}
+use Rattle.block_store.specs.Tables.{AreNamed, HasDistinctNames, IsTable}
+use Rattle.block_store.specs.View.{laws}
+use Rattle.block_store.proofs.Changed.{parts_by}
 use Rattle.block_store.proofs.Joined.{bterms_held, iterms_held, terms_placed}
-use Rattle.block_tables.specs.Names.{IsAlone}
+use Rattle.block_tables.specs.Names.{HasOwnName, IsAlone}
 use Rattle.block_tables.specs.RuleBlockTerminals.{IsSoundBTerm}
 use Rattle.block_tables.specs.RuleInstances.{IsSoundInst}
 use Rattle.block_tables.specs.RuleNets.{IsSoundNet, AreTerminals, term_net}
-use Rattle.block_tables.specs.RuleRows.{IsSoundRow}
+use Rattle.block_tables.specs.RulePlain.{IsSoundPlain}
 use Rattle.block_tables.specs.RuleTerminals.{IsSoundITerm}
-use Rattle.block_tables.specs.Rules.{IsSoundKind, IsSoundRecord}
+use Rattle.block_tables.specs.Rules.{IsSoundKind, IsTableIf}
+use Rattle.block_tables.proofs.Beyond.{if_built}
 
 module _ {A : Type 0} where
   -- a fact of the record that is there, if one is
@@ -42,6 +46,14 @@ module _ {A : Type 0} where
   -- names that no two hold
   alone : (name_of : A → List ℕ) (t : Table A) (id : ℕ) (x : A) → AreNamed name_of t → record_at t id ≡ Some x → IsAlone name_of t id (name_of x)
   alone name_of t id x named at = λ other h. named other id (name_of x) h (ap (option_map name_of) at)
+
+  alone_by : (name : Option (Lens A (List ℕ))) (t : Table A) (id : ℕ) (x : A) → HasDistinctNames name t → record_at t id ≡ Some x → HasOwnName name t id x
+  alone_by None t id x named at = tt
+  alone_by (Some name) t id x named at = alone name.get t id x named at
+
+  table_if : (built : Bool) (cap : ℕ) (t : Table A) → IsTable cap t → (built ≡ false → t ≡ empty_table) → IsTableIf built cap t
+  table_if true cap t is coming = is
+  table_if false cap t is coming = coming refl
 
 -- the numbers of terminals
 pub term_net-even : (b : Block) (id : ℕ) → term_net b (iterm_number id) ≡ iterm_net b id
@@ -85,8 +97,8 @@ module _ (tech : Technology) (library : List Master) (cap : ℕ) (b : Block) (s 
     joined = λ some. owned_once (times (bterm_number id) (net_terms b e.fields.net)) (bterm_net b id) e.fields.net (bterms_held tech library cap b s e.fields.net id (omega arith)) (ap (λ o. option_map_or (λ (e : BTermEntry). e.fields.net) o 0) at);
   }
 
-  sound_row : (id : ℕ) (e : RowEntry) → record_at b.row id ≡ Some e → IsSoundRow tech b id e
-  sound_row id e at = record { values = (s.kinds kind.Row).each id e at; alone = alone (λ (e : RowEntry). e.fields.name) b.row id e (s.kinds kind.Row).named at }
+  sound_plain : (k : Kind) (id : ℕ) (e : Entry k) → record_at (table_of k b) id ≡ Some e → IsSoundPlain (parts_by tech library b.header) k (table_of k b) id e
+  sound_plain k id e at = record { values = (s.kinds k).each id e at; alone = alone_by (laws k).name (table_of k b) id e (s.kinds k).named at }
 
   -- the members of a net's list
   held_once : (id number : ℕ) → 1 ≤ id → 1 ≤ times number (net_terms b id) → (times number (net_terms b id) ≡ 1) × (term_net b number ≡ id)
@@ -116,11 +128,7 @@ module _ (tech : Technology) (library : List Master) (cap : ℕ) (b : Block) (s 
   sound_kind kind.ITerm = record { table = (s.kinds kind.ITerm).table; records = λ id. if_there (record_at b.iterm id) (λ r. IsSoundITerm b id r) (sound_iterm id) }
   sound_kind kind.Net = record { table = (s.kinds kind.Net).table; records = λ id. if_there (record_at b.net id) (λ e. IsSoundNet b id e) (sound_net id) }
   sound_kind kind.BTerm = record { table = (s.kinds kind.BTerm).table; records = λ id. if_there (record_at b.bterm id) (λ e. IsSoundBTerm b id e) (sound_bterm id) }
-  sound_kind kind.Pin = record { table = (s.kinds kind.Pin).coming refl; records = λ id. tt }
-  sound_kind kind.Row = record { table = (s.kinds kind.Row).table; records = λ id. if_there (record_at b.row id) (λ e. IsSoundRow tech b id e) (sound_row id) }
-  sound_kind kind.Track = record { table = (s.kinds kind.Track).coming refl; records = λ id. tt }
-  sound_kind kind.Wire = record { table = (s.kinds kind.Wire).coming refl; records = λ id. tt }
-  sound_kind kind.Blockage = record { table = (s.kinds kind.Blockage).coming refl; records = λ id. tt }
-  sound_kind kind.Region = record { table = (s.kinds kind.Region).coming refl; records = λ id. tt }
-  sound_kind kind.Group = record { table = (s.kinds kind.Group).coming refl; records = λ id. tt }
-  sound_kind kind.Prop = record { table = (s.kinds kind.Prop).coming refl; records = λ id. tt }
+  sound_kind k = record {
+    table = table_if (laws k).built cap (table_of k b) (s.kinds k).table (s.kinds k).coming;
+    records = λ id. if_built (laws k).built _ (if_there (record_at (table_of k b) id) (λ e. IsSoundPlain (parts_by tech library b.header) k (table_of k b) id e) (sound_plain k id));
+  }

@@ -1,8 +1,7 @@
 -- A block is sound whose parts are.
-use Rattle.std.proofs.Common.{◌≡◌, ◌≢◌, ◌+◌, ◌*◌, ◌<◌, ◌≤◌, ◌==◌, true, false, eqb, List, ℕ, Option, Some, None, IfSome, slice_get, refl, sym, ap, ◌∙◌, subst, inl, inr, arith}
+use Rattle.std.proofs.Common.{◌≡◌, Bool, true, false, ◌≤◌, eqb, List, ℕ, Option, Some, None, IfSome, slice_get, refl, sym, ap, ◌∙◌, subst, inl, inr, arith}
 use Rattle.std.specs.Option.{option_map, option_map_or}
 use Rattle.std.proofs.lemmas.Bool.{cases_Bool, cases_lt, eqb-true, eqb-false, false≢true}
-use Rattle.std.proofs.lemmas.Bool.Decides.{nat_tests}
 use Rattle.odb_base.specs.declared.codes.kind.Kind.{Kind}
 use Rattle.odb_base.specs.declared.codes.kind.Kind.TheVariants as kind
 use Rattle.slot_pool.specs.Table.{Table, once_if, record_at, times}
@@ -12,26 +11,25 @@ use Rattle.tech.specs.Technology.{Technology}
 use Rattle.block_store.specs.declared.entry.BTermEntry.{BTermEntry}
 use Rattle.block_store.specs.declared.entry.InstEntry.{InstEntry}
 use Rattle.block_store.specs.declared.entry.NetEntry.{NetEntry}
-use Rattle.block_store.specs.declared.entry.RowEntry.{RowEntry}
 use Rattle.block_store.specs.Block.{Block}
-use Rattle.block_store.specs.Kinds.{table_of}
+use Rattle.block_store.specs.Kinds.{Entry, table_of}
+use Rattle.block_store.specs.Lens.{Lens}
 use Rattle.block_store.specs.Lists.{bterm_number, iterm_number, list_in}
-use Rattle.block_store.specs.Names.{name_by}
 use Rattle.block_store.specs.Sorts.{AreHeld, BTermsOfNet, ITermsOfNet, IsHeld, Sort, list_of, owner_of}
 use Rattle.block_store.specs.Sound.{IsKind, IsSound, bterm_net, inst_terms, iterm_net, iterm_place, net_terms}
-use Rattle.block_store.specs.Tables.{AreEach, AreNamed}
+use Rattle.block_store.specs.Tables.{AreNamed, HasDistinctNames}
 use Rattle.block_store.specs.TermPlaces.{ArePlaced, place_of, terminals_of}
-use Rattle.block_store.specs.View.{view}
-use Rattle.block_store.proofs.Changed.{kind_coming}
+use Rattle.block_store.specs.View.{laws, view}
+use Rattle.block_store.proofs.Changed.{kind_coming, parts_by}
 use Rattle.block_store.proofs.Held.{held_stands, placed_stands}
 use Rattle.block_store.proofs.Joined.{bterm_seen, iterm_seen, place_seen, terminals_seen, terms_seen}
-use Rattle.block_tables.specs.Names.{IsAlone}
+use Rattle.block_tables.specs.Names.{HasOwnName, IsAlone}
 use Rattle.block_tables.specs.RuleBlockTerminals.{IsSoundBTerm}
 use Rattle.block_tables.specs.RuleInstances.{IsSoundInst}
 use Rattle.block_tables.specs.RuleNets.{IsSoundNet, term_net}
-use Rattle.block_tables.specs.RuleRows.{IsSoundRow}
+use Rattle.block_tables.specs.RulePlain.{IsSoundPlain}
 use Rattle.block_tables.specs.RuleTerminals.{IsSoundITerm}
-use Rattle.block_tables.specs.Rules.{AreSoundParts, IsSoundKind, IsSoundRecord}
+use Rattle.block_tables.specs.Rules.{AreSoundParts, IfBuilt, IsTableIf}
 use Rattle.block_tables.proofs.PartsOfSound.{term_net-even, term_net-odd}
 
 module _ {A : Type 0} where
@@ -69,6 +67,10 @@ module _ {A : Type 0} where
       let found = named name_of (record_at t other) name h' in
       each other found.0 found.1 one (h ∙ ap Some (sym found.2))
 
+  names_by : (name : Option (Lens A (List ℕ))) (t : Table A) → ((id : ℕ) (x : A) → record_at t id ≡ Some x → HasOwnName name t id x) → HasDistinctNames name t
+  names_by None t each = tt
+  names_by (Some name) t each = are_named name.get t each
+
 module _ (tech : Technology) (library : List Master) (cap : ℕ) (b : Block) (parts : AreSoundParts tech library cap b) where
   inst : (id : ℕ) (e : InstEntry) → record_at b.inst id ≡ Some e → IsSoundInst library b id e
   inst id e at = there (record_at b.inst id) (λ e. IsSoundInst library b id e) e ((parts.kinds kind.Inst).records id) at
@@ -81,9 +83,6 @@ module _ (tech : Technology) (library : List Master) (cap : ℕ) (b : Block) (pa
 
   bterm : (id : ℕ) (e : BTermEntry) → record_at b.bterm id ≡ Some e → IsSoundBTerm b id e
   bterm id e at = there (record_at b.bterm id) (λ e. IsSoundBTerm b id e) e ((parts.kinds kind.BTerm).records id) at
-
-  row : (id : ℕ) (e : RowEntry) → record_at b.row id ≡ Some e → IsSoundRow tech b id e
-  row id e at = there (record_at b.row id) (λ e. IsSoundRow tech b id e) e ((parts.kinds kind.Row).records id) at
 
   -- what stands in the list of a net stands there once and names it
   member : (id number : ℕ) → 1 ≤ times number (net_terms b id) → (times number (net_terms b id) ≡ 1) × (term_net b number ≡ id)
@@ -134,19 +133,20 @@ module _ (tech : Technology) (library : List Master) (cap : ℕ) (b : Block) (pa
   placed : ArePlaced (inst_terms b) (iterm_place b)
   placed id place part = (stands id place part, names id place part)
 
+  plain_kind : (k : Kind) (built : Bool) → (laws k).built ≡ built → IsTableIf built cap (table_of k b) → ((id : ℕ) → IfBuilt built (IfSome (record_at (table_of k b) id) (λ e. IsSoundPlain (parts_by tech library b.header) k (table_of k b) id e))) → IsKind (parts_by tech library b.header) cap k (table_of k b)
+  plain_kind k true is table records =
+      let each : (id : ℕ) (e : Entry k) → record_at (table_of k b) id ≡ Some e → IsSoundPlain (parts_by tech library b.header) k (table_of k b) id e =
+      λ id e at. there (record_at (table_of k b) id) (λ e. IsSoundPlain (parts_by tech library b.header) k (table_of k b) id e) e (records id) at
+      in
+      record { table = table; each = λ id e at. (each id e at).values; named = names_by (laws k).name (table_of k b) (λ id e at. (each id e at).alone); coming = λ unbuilt. absurd (false≢true (sym unbuilt ∙ is)) }
+  plain_kind k false is table records = kind_coming (parts_by tech library b.header) cap k (table_of k b) table
+
   kinds : (k : Kind) → IsKind (record { tech = tech; library = library; header = b.header }) cap k (table_of k b)
   kinds kind.Inst = record { table = (parts.kinds kind.Inst).table; each = λ id e at. (inst id e at).values; named = are_named (λ (e : InstEntry). e.fields.name) b.inst (λ id e at. (inst id e at).alone); coming = λ unbuilt. absurd (false≢true (sym unbuilt)) }
   kinds kind.ITerm = record { table = (parts.kinds kind.ITerm).table; each = λ id r at. tt; named = tt; coming = λ unbuilt. absurd (false≢true (sym unbuilt)) }
   kinds kind.Net = record { table = (parts.kinds kind.Net).table; each = λ id e at. (net id e at).values; named = are_named (λ (e : NetEntry). e.fields.name) b.net (λ id e at. (net id e at).alone); coming = λ unbuilt. absurd (false≢true (sym unbuilt)) }
   kinds kind.BTerm = record { table = (parts.kinds kind.BTerm).table; each = λ id e at. (bterm id e at).values; named = are_named (λ (e : BTermEntry). e.fields.name) b.bterm (λ id e at. (bterm id e at).alone); coming = λ unbuilt. absurd (false≢true (sym unbuilt)) }
-  kinds kind.Pin = kind_coming (record { tech = tech; library = library; header = b.header }) cap kind.Pin b.pin (parts.kinds kind.Pin).table
-  kinds kind.Row = record { table = (parts.kinds kind.Row).table; each = λ id e at. (row id e at).values; named = are_named (λ (e : RowEntry). e.fields.name) b.row (λ id e at. (row id e at).alone); coming = λ unbuilt. absurd (false≢true (sym unbuilt)) }
-  kinds kind.Track = kind_coming (record { tech = tech; library = library; header = b.header }) cap kind.Track b.track (parts.kinds kind.Track).table
-  kinds kind.Wire = kind_coming (record { tech = tech; library = library; header = b.header }) cap kind.Wire b.wire (parts.kinds kind.Wire).table
-  kinds kind.Blockage = kind_coming (record { tech = tech; library = library; header = b.header }) cap kind.Blockage b.blockage (parts.kinds kind.Blockage).table
-  kinds kind.Region = kind_coming (record { tech = tech; library = library; header = b.header }) cap kind.Region b.region (parts.kinds kind.Region).table
-  kinds kind.Group = kind_coming (record { tech = tech; library = library; header = b.header }) cap kind.Group b.group (parts.kinds kind.Group).table
-  kinds kind.Prop = kind_coming (record { tech = tech; library = library; header = b.header }) cap kind.Prop b.prop (parts.kinds kind.Prop).table
+  kinds k = plain_kind k (laws k).built refl (parts.kinds k).table (parts.kinds k).records
 
   held_in : (s : Sort) → IsHeld s (view b)
   held_in ITermsOfNet = held_stands (net_terms b) (list_of ITermsOfNet (view b)) iterm_number (iterm_net b) (owner_of ITermsOfNet (view b)) (terms_seen b) (iterm_seen b) iterms_held

@@ -8,6 +8,6 @@ pub mod Prepared
 pub mod RuleBlockTerminals
 pub mod RuleInstances
 pub mod RuleNets
-pub mod RuleRows
+pub mod RulePlain
 pub mod RuleTerminals
 pub mod Rules

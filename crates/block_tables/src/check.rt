@@ -7,9 +7,8 @@ ghost use Rattle.block_tables.specs.Prepared.{IsPrepared};
 ghost use Rattle.block_tables.specs.Rules.{AreSoundParts, IsSoundHeader, IsSoundKind};
 
 use crate::fault::TablesFault;
-use crate::good::is_sound_table;
 use crate::headers::is_sound_header;
-use crate::judge::Judge;
+use crate::judge::{Judge, is_sound_table};
 use block_store::Tables;
 use library::Library;
 use odb_base::{Coded, Kind};

@@ -1,12 +1,9 @@
 ghost use Rattle.std.specs.Prelude.{◌≡◌, ◌↔◌, ◌+◌, ◌≤◌, ℕ, All, IfOk, IsTrue, length, slice_index};
-ghost use Rattle.block_store.specs.Block.{slots_in};
 ghost use Rattle.block_store.specs.Tables.{IsTable};
-ghost use Rattle.block_tables.specs.Rules.{IsSoundTable};
 ghost use Rattle.slot_pool.specs.Table.{IsGood, is_vacant, once_if};
 
 use crate::tally::tally;
-use block_store::{PlainTable, Tables};
-use odb_base::Kind;
+use block_store::PlainTable;
 use std::alloc::{AllocError, Global};
 
 // Whether a table is good. The cap on its slots is for the caller.
@@ -47,25 +44,4 @@ fn are_free_once<T>(slots: &[Option<T>], counts: &[u8]) -> bool
         }
     }
     true
-}
-
-// Whether the table of a kind is good, or empty if the kind is still to come.
-pub(crate) fn is_sound_table(alloc: Global, tables: &Tables, kind: Kind) -> Result<bool, AllocError>
-    requires { slots_in kind tables.now ≤ 16777215 }
-    ensures { IfOk result (λ sound. (cap : ℕ) → slots_in kind tables.now ≤ cap → (IsTrue sound ↔ IsSoundTable cap tables.now kind)) }
-{
-    match kind {
-        Kind::Inst => is_table(alloc, &tables.inst),
-        Kind::ITerm => is_table(alloc, &tables.iterm),
-        Kind::Net => is_table(alloc, &tables.net),
-        Kind::BTerm => is_table(alloc, &tables.bterm),
-        Kind::Pin => Ok(tables.pin.is_empty()),
-        Kind::Row => is_table(alloc, &tables.row),
-        Kind::Track => Ok(tables.track.is_empty()),
-        Kind::Wire => Ok(tables.wire.is_empty()),
-        Kind::Blockage => Ok(tables.blockage.is_empty()),
-        Kind::Region => Ok(tables.region.is_empty()),
-        Kind::Group => Ok(tables.group.is_empty()),
-        Kind::Prop => Ok(tables.prop.is_empty()),
-    }
 }

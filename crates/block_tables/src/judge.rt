@@ -2,19 +2,21 @@ ghost use Rattle.std.specs.Prelude.{◌≡◌, ◌≢◌, ◌↔◌, ◌+◌, �
 ghost use Rattle.slot_pool.specs.Table.{record_at, times};
 ghost use Rattle.block_store.specs.Block.{slots_in};
 ghost use Rattle.block_store.specs.Nets.{IsNet};
+ghost use Rattle.block_store.specs.Rows.{IsRow};
 ghost use Rattle.block_store.specs.Sound.{net_terms};
 ghost use Rattle.block_tables.specs.Indexes.{CountsStanding};
 ghost use Rattle.block_tables.specs.RuleNets.{AreTerminals, term_net};
-ghost use Rattle.block_tables.specs.Rules.{IsSoundRecord};
+ghost use Rattle.block_tables.specs.Rules.{IsSoundRecord, IsSoundTable};
 
+use crate::good::is_table;
 use crate::holders::Holders;
 use crate::instances::are_in_place;
 use crate::names::{holders_of, is_alone};
 use crate::nets::are_terminals;
 use crate::standing::standing;
 use crate::terminals::{is_counted, stands_at};
-use crate::values::{is_bterm, is_inst, is_net, is_row_entry};
-use block_store::{NetEntry, Tables};
+use crate::values::{is_bterm, is_inst, is_net};
+use block_store::{NetEntry, RowEntry, Tables, is_row};
 use library::Library;
 use odb_base::Kind;
 use std::alloc::{AllocError, Global};
@@ -189,4 +191,34 @@ impl<'a> Judge<'a> {
     {
         net == 0 || is_counted(&self.standing, number)
     }
+}
+
+// Whether the table of a kind is good, or empty if the kind is still to come.
+pub(crate) fn is_sound_table(alloc: Global, tables: &Tables, kind: Kind) -> Result<bool, AllocError>
+    requires { slots_in kind tables.now ≤ 16777215 }
+    ensures { IfOk result (λ sound. (cap : ℕ) → slots_in kind tables.now ≤ cap → (IsTrue sound ↔ IsSoundTable cap tables.now kind)) }
+{
+    match kind {
+        Kind::Inst => is_table(alloc, &tables.inst),
+        Kind::ITerm => is_table(alloc, &tables.iterm),
+        Kind::Net => is_table(alloc, &tables.net),
+        Kind::BTerm => is_table(alloc, &tables.bterm),
+        Kind::Pin => Ok(tables.pin.is_empty()),
+        Kind::Row => is_table(alloc, &tables.row),
+        Kind::Track => Ok(tables.track.is_empty()),
+        Kind::Wire => Ok(tables.wire.is_empty()),
+        Kind::Blockage => Ok(tables.blockage.is_empty()),
+        Kind::Region => Ok(tables.region.is_empty()),
+        Kind::Group => Ok(tables.group.is_empty()),
+        Kind::Prop => Ok(tables.prop.is_empty()),
+    }
+}
+
+// Whether the values of a row are lawful.
+pub(crate) fn is_row_entry(tech: &Tech, row: &RowEntry) -> bool
+    ensures { IsTrue result ↔ IsRow tech.now row.now }
+{
+    let lawful = is_row(tech, &row.fields);
+    let bare = row.props.items().is_empty();
+    lawful && bare
 }

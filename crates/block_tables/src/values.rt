@@ -3,15 +3,11 @@ ghost use Rattle.block_records.specs.Header.{new_header};
 ghost use Rattle.block_store.specs.BlockTerminals.{IsBTerm};
 ghost use Rattle.block_store.specs.Instances.{IsInst, term_count};
 ghost use Rattle.block_store.specs.Nets.{IsNet};
-ghost use Rattle.block_store.specs.Rows.{IsRow};
 
 use block_records::Header;
-use block_store::{
-    BTermEntry, InstEntry, NetEntry, RowEntry, is_bterm_direction, is_placement, is_row,
-};
+use block_store::{BTermEntry, InstEntry, NetEntry, is_bterm_direction, is_placement};
 use library::Library;
 use odb_base::{MasterId, Text};
-use tech::Tech;
 
 // Whether the values of an instance are lawful, and it has a terminal for each of its master's.
 pub(crate) fn is_inst(library: &Library, inst: &InstEntry) -> bool
@@ -53,15 +49,6 @@ pub(crate) fn is_bterm(bterm: &BTermEntry) -> bool
     let directed = is_bterm_direction(bterm.fields.direction);
     let bare = bterm.fields.kept.bytes().is_empty() && bterm.pins.items().is_empty();
     directed && bare
-}
-
-// Whether the values of a row are lawful.
-pub(crate) fn is_row_entry(tech: &Tech, row: &RowEntry) -> bool
-    ensures { IsTrue result ↔ IsRow tech.now row.now }
-{
-    let lawful = is_row(tech, &row.fields);
-    let bare = row.props.items().is_empty();
-    lawful && bare
 }
 
 // Whether the header is that of a new block.

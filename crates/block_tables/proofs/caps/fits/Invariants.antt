@@ -1,4 +1,4 @@
-use Rattle.std.proofs.Common.{◌≤◌, ℕ}
+use Rattle.std.proofs.Common.{◌≤◌}
 use Rattle.odb_base.specs.Kind.{kind_code}
 use Rattle.odb_base.specs.declared.codes.kind.Kind.{Kind}
 use Rattle.block_store.specs.Block.{slots_in}

@@ -1,4 +1,4 @@
-use Rattle.std.proofs.Common.{◌==◌, eqb, refl, sym, ◌∙◌, inl, inr, arith}
+use Rattle.std.proofs.Common.{◌==◌, eqb, refl, ◌∙◌, inl, inr, arith}
 use Rattle.std.proofs.lemmas.Bool.{cases_Bool, eqb-true}
 use Rattle.block_tables.specs.RuleNets.{term_net}
 use Rattle.block_tables.proofs.Counts.{listed_more}
