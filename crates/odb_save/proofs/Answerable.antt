@@ -110,17 +110,7 @@ module _ (tech : Technology) (library : List Master) (cap : ℕ) (b : Block) whe
 
   codes_from : (k : Kind) → 1 ≤ kind_code k
   codes_from kind.Inst = lit≤ tt
-  codes_from kind.ITerm = lit≤ tt
-  codes_from kind.Net = lit≤ tt
-  codes_from kind.BTerm = lit≤ tt
-  codes_from kind.Pin = lit≤ tt
-  codes_from kind.Row = lit≤ tt
-  codes_from kind.Track = lit≤ tt
-  codes_from kind.Wire = lit≤ tt
-  codes_from kind.Blockage = lit≤ tt
-  codes_from kind.Region = lit≤ tt
-  codes_from kind.Group = lit≤ tt
-  codes_from kind.Prop = lit≤ tt
+  codes_from k = lit≤ tt
 
   -- a kind after those that are sound
   next_kind : (n : ℕ) (k : Kind) → kind_code k ≡ n + 1 → IsSoundHeader tech library b → SoundUpTo n → (IsSoundKind tech library cap b k ⊎ ((id : ℕ) × IsFirstFault tech library cap b k id)) → SoundUpTo (suc n) ⊎ Least

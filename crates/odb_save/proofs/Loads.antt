@@ -6,18 +6,15 @@ use Rattle.block_store.specs.Database.{Database, IsSoundDatabase}
 use Rattle.block_tables.specs.Causes.{IsRefusal}
 use Rattle.block_tables.specs.declared.fault.TablesFault.{TablesFault}
 use Rattle.block_tables.specs.declared.fault.TablesFault.TheVariants as tables
-use Rattle.saved_fields.specs.declared.fault.ReadFault.{ReadFault}
-use Rattle.saved_fields.specs.declared.fault.ReadFault.TheVariants as told
 use Rattle.saved_reader.specs.declared.saved.Saved.{Saved}
 use Rattle.saved_fields.specs.Fault as read
 use Rattle.saved_fields.specs.Fault.{Fault}
-use Rattle.saved_fields.specs.Reading.{Fails}
 use Rattle.saved_reader.specs.Saved.{saved_in}
 use Rattle.odb_save.specs.declared.load_fault.LoadFault.{LoadFault}
 use Rattle.odb_save.specs.declared.load_fault.LoadFault.TheVariants as load
 use Rattle.odb_save.specs.Design.{IsDesign}
-use Rattle.odb_save.specs.LoadFaults.{of_bytes, of_read, of_tables}
-use Rattle.odb_save.specs.Loading.{HasLoadCause, HasOneAnswer, IsDesignFault, IsLoadAnswer, IsLoaded, IsLoadedAs, IsPartFault, IsUnsoundAt, Loads}
+use Rattle.odb_save.specs.LoadFaults.{of_bytes, of_tables}
+use Rattle.odb_save.specs.Loading.{HasLoadCause, HasOneAnswer, IsLoadAnswer, IsLoaded, IsLoadedAs, IsPartFault, IsUnsoundAt, Loads}
 use Rattle.odb_save.specs.Save.{content_bytes, save_bytes}
 use Rattle.odb_save.specs.Spelled.{database_of, spelled}
 use Rattle.odb_save.proofs.LeastPlaces.{one_place}
@@ -25,14 +22,6 @@ use Rattle.odb_save.proofs.SoundFields.{saved_fields}
 use Rattle.odb_save.proofs.Whole.{bytes_are_read, read_has_bytes}
 
 -- ---- faults
-
--- where the technology and the library aren't lawful, the header is the least place
-pub part_of_design : (cap : ℕ) (s : Saved) (fault : LoadFault) → IsDesignFault s.tech s.library fault → IsPartFault cap s fault
-part_of_design cap s load.Memory h = tt
-part_of_design cap s fault h =
-    let P : LoadFault → Type 0 = IsPartFault cap s in
-    let none : P (load.Unsound None 0) = record { unsound = λ d. h.1 (record { tech = d.tech; library = d.library }); least = (refl, λ x. h.1 x.design) } in
-    subst P (sym h.0) none
 
 -- a fault of the tables is one of the database
 pub part_of_tables : (cap : ℕ) (s : Saved) (fault : TablesFault) → IsDesign s.tech s.library → IsRefusal s.tech s.library cap s.tables fault → IsPartFault cap s (of_tables fault)
@@ -50,15 +39,7 @@ module _ (cap : ℕ) (bytes : List ℕ) where
   cause_of_part s e load.Memory h = tt
   cause_of_part s e fault h = absurd h
 
-  cause_of_read : (fault : ReadFault) → Fails fault (saved_in cap bytes) → HasLoadCause cap bytes (of_read fault)
-  cause_of_read told.Memory h = tt
-  cause_of_read fault h = h
-
   -- ---- answers
-
-  -- what was read failed
-  pub answer_of_read : (fault : ReadFault) → Fails fault (saved_in cap bytes) → IsLoadAnswer cap bytes (Err (of_read fault))
-  answer_of_read fault h = answer_of_cause (of_read fault) (cause_of_read fault h)
 
   pub loaded : (s : Saved) → AreBytes bytes → saved_in cap bytes ≡ Ok s → IsSoundDatabase (database_of cap s) → IsLoaded cap bytes (database_of cap s)
   unfolding save_bytes content_bytes

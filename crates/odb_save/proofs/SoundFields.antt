@@ -1,5 +1,5 @@
 -- The fields of a sound database are lawful, each by itself. What soundness says is read here alone.
-use Rattle.std.proofs.Common.{◌≡◌, ◌&&◌, Bool, ◌<◌, ◌≤◌, ◌^◌, ◌+◌, ◌*◌, ◌-◌, ◌/◌, ◌⊎◌, true, eqb, leb, ℕ, zero, suc, ℤ, pos, negsuc, List, [], ◌∷◌, length, slice_get, Option, Some, None, is_some, refl, sym, ap, subst, ◌∙◌, arith, inl, inr}
+use Rattle.std.proofs.Common.{◌≡◌, ◌&&◌, Bool, false, ◌<◌, ◌≤◌, ◌^◌, ◌+◌, ◌*◌, ◌-◌, ◌/◌, ◌⊎◌, true, eqb, leb, ℕ, zero, suc, ℤ, pos, negsuc, List, [], ◌∷◌, length, slice_get, Option, Some, None, is_some, refl, sym, ap, subst, ◌∙◌, arith, inl, inr}
 use Rattle.std.specs.Prelude.{FitsSigned, is_none}
 use Rattle.std.specs.Int.{w32}
 use Rattle.std.specs.List.{AllByRecursion}
@@ -41,12 +41,14 @@ use Rattle.tech.specs.Technology.{Technology}
 use Rattle.tech.specs.declared.layer.Layer.{Layer}
 use Rattle.tech.specs.declared.site.Site.{Site}
 use Rattle.tech.specs.declared.via.TechVia.{TechVia}
+use Rattle.block_store.specs.Kinds.{table_of}
 use Rattle.block_store.specs.Lists.{bterm_number, iterm_number, list_in}
 use Rattle.block_store.specs.BlockTerminals.{IsBTermDirection}
 use Rattle.block_store.specs.Instances.{term_count}
 use Rattle.block_store.specs.Placements.{IsPlacement, unplaced}
 use Rattle.block_store.specs.Sound.{IsSound, bterm_net, inst_terms, iterm_net, iterm_place, net_terms}
 use Rattle.block_store.specs.Tables.{AreEach, IsTable}
+use Rattle.block_store.specs.View.{laws}
 use Rattle.block_store.proofs.TableLemmas.{none_in_empty}
 use Rattle.block_store.proofs.Held.{times_held}
 use Rattle.block_store.proofs.Joined.{bterm_inside, bterms_held, iterm_inside, iterms_held, net_of_member, number_is, shown_by, terms_distinct, terms_placed}
@@ -60,20 +62,18 @@ use Rattle.slot_pool.proofs.Counts.{live_within, vacant_within}
 use Rattle.block_store.specs.Rows.{IsRepeated, IsSiteCount}
 use Rattle.saved_fields.specs.Sites.{may_step}
 use Rattle.saved_fields.specs.Fields as field
-use Rattle.saved_fields.specs.Parts.{is_built, may_have}
+use Rattle.saved_fields.specs.Parts.{may_have}
+use Rattle.saved_reader.specs.Built.{is_built}
+use Rattle.odb_save.specs.Kinds.{saved_as}
 use Rattle.odb_save.specs.Spelled.{spelled}
 use Rattle.slot_pool.proofs.Counted.{fewer_free}
-use Rattle.block_store.specs.PlainTables.{AreTables}
-use Rattle.block_tables.proofs.Made.{are_tables}
-use Rattle.block_tables.proofs.Parts.{sound_by_parts}
 use Rattle.saved_reader.specs.Fits.{IsShort}
-use Rattle.saved_reader.specs.Grouping.{group_format, prop_format, region_format}
 use Rattle.saved_reader.specs.Header.{header_format}
 use Rattle.saved_fields.specs.Lawful.{IsDistance, IsId, IsList, IsNameText, IsNumber, IsOption, IsPlacementFields, IsRectFields, IsSites, IsSmall, IsTableOf, IsTerm, IsText}
 use Rattle.saved_reader.specs.Library.{extent_field, extent_of, library_format, master_format, mterm_format}
 use Rattle.saved_reader.specs.Objects.{block_direction_field, bterm_format, inst_format, is_of_block, iterm_format, net_format}
 use Rattle.saved_fields.specs.PartFormats.{shape_format}
-use Rattle.saved_reader.specs.Physical.{blockage_format, pin_format, row_format, track_format, wire_format}
+use Rattle.saved_reader.specs.Physical.{row_format}
 use Rattle.saved_reader.specs.Saved.{block_format, block_parts, built_format, others_format}
 use Rattle.saved_reader.specs.Technology.{layer_format, site_format, tech_format, via_format, via_name_field}
 use Rattle.odb_save.proofs.Fitting.{few_terminals, named_within, once_true}
@@ -248,25 +248,26 @@ free_fields t cap is small = each_held IsId t.free (λ id inside.
     let within = vacant_within t.slots id vacant in
     omega (arith, within.1, is.within, small))
 
-may : (k : Kind) (n : ℕ) → is_built k ≡ true → may_have k n ≡ true
-may k n built = rw built refl
+may : (built : Bool) (n : ℕ) → built ≡ true → may_have built n ≡ true
+may built n is = rw is refl
 
-table_fields : {A : Type 0} (k : Kind) (cap : ℕ) (Fits : A → Type 0) (t : Table A) → is_built k ≡ true → cap ≤ 16777215 → IsTable cap t → AreEach Fits t → IsTableOf k cap Fits t
-table_fields k cap Fits t built small is each =
+table_fields : {A : Type 0} (built : Bool) (cap : ℕ) (Fits : A → Type 0) (t : Table A) → built ≡ true → cap ≤ 16777215 → IsTable cap t → AreEach Fits t → IsTableOf built cap Fits t
+table_fields built cap Fits t so small is each =
     let few = fewer_free t is.good in (
-      ((may k (length t.slots) built, (is.within, omega (arith, is.within, small))), slots_fields Fits t each),
-      ((may k (length t.free) built, omega (arith, few, is.within, small)), free_fields t cap is small),
+      ((may built (length t.slots) so, (is.within, omega (arith, is.within, small))), slots_fields Fits t each),
+      ((may built (length t.free) so, omega (arith, few, is.within, small)), free_fields t cap is small),
     )
 
 -- any kind may have nothing
-zero_may : (k : Kind) → may_have k 0 ≡ true
-zero_may k = elim (cases_Bool (is_built k)) [ inl built ↦ rw built refl | inr unbuilt ↦ rw unbuilt refl ]
+zero_may : (built : Bool) → may_have built 0 ≡ true
+zero_may true = refl
+zero_may false = refl
 
 -- a table without slots and free identifiers is one of any records
-empty_fields : {A : Type 0} (k : Kind) (cap : ℕ) (Fits : A → Type 0) (t : Table A) → t ≡ empty_table → IsTableOf k cap Fits t
-empty_fields {A} k cap Fits t is =
-    let P : Table A → Type 0 = IsTableOf k cap Fits in
-    let empty : P empty_table = (((zero_may k, (omega arith, omega arith)), tt), ((zero_may k, omega arith), tt)) in
+empty_fields : {A : Type 0} (built : Bool) (cap : ℕ) (Fits : A → Type 0) (t : Table A) → t ≡ empty_table → IsTableOf built cap Fits t
+empty_fields {A} built cap Fits t is =
+    let P : Table A → Type 0 = IsTableOf built cap Fits in
+    let empty : P empty_table = (((zero_may built, (omega arith, omega arith)), tt), ((zero_may built, omega arith), tt)) in
     subst P (sym is) empty
 
 -- ---- records
@@ -363,24 +364,15 @@ module _ (tech : Technology) (library : List Master) (cap : ℕ) (b : Block) (so
 -- ---- objects
 
 -- each object of a block has lawful fields
-pub record AreLawful (b : Block) : Type 0 where
-  pub inst : AreEach inst_format.Has b.inst
-  pub iterm : AreEach iterm_format.Has b.iterm
-  pub net : AreEach net_format.Has b.net
-  pub bterm : AreEach bterm_format.Has b.bterm
-  pub pin : AreEach pin_format.Has b.pin
-  pub row : AreEach row_format.Has b.row
-  pub track : AreEach track_format.Has b.track
-  pub wire : AreEach wire_format.Has b.wire
-  pub blockage : AreEach blockage_format.Has b.blockage
-  pub region : AreEach region_format.Has b.region
-  pub group : AreEach group_format.Has b.group
-  pub prop : AreEach prop_format.Has b.prop
+abbrev pub AreLawful : Block → Type 0
+AreLawful b = (k : Kind) → AreEach (saved_as k).Has (table_of k b)
+
+-- the kinds that saved bytes may have are those that are built
+built_is : (k : Kind) → is_built k ≡ (laws k).built
+built_is kind.Inst = refl
+built_is k = refl
 
 module _ (d : Database) (sound : IsSoundDatabase d) where
-  tables : AreTables d.cap d.block
-  tables = are_tables d.tech d.library d.cap d.block ((sound_by_parts d.tech d.library d.cap d.block).0 sound.block)
-
   inst_fields : AreEach inst_format.Has d.block.inst
   unfolding inst_format
   inst_fields id e found =
@@ -390,7 +382,7 @@ module _ (d : Database) (sound : IsSoundDatabase d) where
       let terminals : AllByRecursion IsId e.fields.terminals = each_by IsId e.fields.terminals (λ k part at.
       let placed = (terms_placed d.tech d.library d.cap d.block sound.block id k part).0 (ap (λ (ids : List ℕ). slice_get ids k) here ∙ at) in
       let shown = shown_by (λ (r : ITermRec). (r.inst, r.index)) (record_at d.block.iterm part) (id, k) placed in
-      live_id d.cap d.block.iterm part sound.capped tables.iterm (found_live d.block.iterm part shown.value shown.is))
+      live_id d.cap d.block.iterm part sound.capped (sound.block.kinds kind.ITerm).table (found_live d.block.iterm part shown.value shown.is))
       in (
         (
           (
@@ -411,11 +403,11 @@ module _ (d : Database) (sound : IsSoundDatabase d) where
   inst_live inst index part (Some e) is at =
       let few = few_terminals d.tech d.library e.fields.master (length e.fields.terminals) sound.library ((sound.block.kinds kind.Inst).each inst e is).fitted in
       let within = slice_get_within e.fields.terminals index part at in
-      (live_id d.cap d.block.inst inst sound.capped tables.inst (found_live d.block.inst inst e is), omega (arith, few, within))
+      (live_id d.cap d.block.inst inst sound.capped (sound.block.kinds kind.Inst).table (found_live d.block.inst inst e is), omega (arith, few, within))
 
   net_id : (net number : ℕ) → holds (net_terms d.block net) number ≡ true → IsId net
   net_id net number inside =
-      live_id d.cap d.block.net net sound.capped tables.net (net_of_member d.tech d.library d.cap d.block net number inside)
+      live_id d.cap d.block.net net sound.capped (sound.block.kinds kind.Net).table (net_of_member d.tech d.library d.cap d.block net number inside)
 
   iterm_fields : AreEach iterm_format.Has d.block.iterm
   unfolding iterm_format
@@ -468,46 +460,27 @@ module _ (d : Database) (sound : IsSoundDatabase d) where
 
   -- each object of a sound database has lawful fields
   pub objects_lawful : AreLawful d.block
-  objects_lawful = record {
-    inst = inst_fields;
-    iterm = iterm_fields;
-    net = net_fields;
-    bterm = bterm_fields;
-    pin = none_each pin_format.Has d.block.pin ((sound.block.kinds kind.Pin).coming refl);
-    row = row_fields;
-    track = none_each track_format.Has d.block.track ((sound.block.kinds kind.Track).coming refl);
-    wire = none_each wire_format.Has d.block.wire ((sound.block.kinds kind.Wire).coming refl);
-    blockage = none_each blockage_format.Has d.block.blockage ((sound.block.kinds kind.Blockage).coming refl);
-    region = none_each region_format.Has d.block.region ((sound.block.kinds kind.Region).coming refl);
-    group = none_each group_format.Has d.block.group ((sound.block.kinds kind.Group).coming refl);
-    prop = none_each prop_format.Has d.block.prop ((sound.block.kinds kind.Prop).coming refl);
-  }
+  objects_lawful kind.Inst = inst_fields
+  objects_lawful kind.ITerm = iterm_fields
+  objects_lawful kind.Net = net_fields
+  objects_lawful kind.BTerm = bterm_fields
+  objects_lawful kind.Row = row_fields
+  objects_lawful k = none_each (saved_as k).Has (table_of k d.block) ((sound.block.kinds k).coming refl)
+
+  table_is : (k : Kind) → IsTableOf (is_built k) d.cap (saved_as k).Has (table_of k d.block)
+  table_is k = elim (cases_Bool (is_built k)) [
+    | inl built ↦ table_fields (is_built k) d.cap (saved_as k).Has (table_of k d.block) built sound.capped (sound.block.kinds k).table (objects_lawful k)
+    | inr unbuilt ↦ empty_fields (is_built k) d.cap (saved_as k).Has (table_of k d.block) ((sound.block.kinds k).coming (sym (built_is k) ∙ unbuilt))
+  ]
 
   built_fields : (built_format d.cap).Has (((d.block.inst, d.block.iterm), d.block.net), d.block.bterm)
   unfolding built_format
-  built_fields = (
-    (
-      (
-        table_fields kind.Inst d.cap inst_format.Has d.block.inst refl sound.capped tables.inst inst_fields,
-        table_fields kind.ITerm d.cap iterm_format.Has d.block.iterm refl sound.capped tables.iterm iterm_fields,
-      ),
-      table_fields kind.Net d.cap net_format.Has d.block.net refl sound.capped tables.net net_fields,
-    ),
-    table_fields kind.BTerm d.cap bterm_format.Has d.block.bterm refl sound.capped tables.bterm bterm_fields,
-  )
+  built_fields = (((table_is kind.Inst, table_is kind.ITerm), table_is kind.Net), table_is kind.BTerm)
 
   others_fields : (others_format d.cap).Has (block_parts d.block).1
   unfolding others_format
   others_fields =
-      let pin = empty_fields kind.Pin d.cap pin_format.Has d.block.pin ((sound.block.kinds kind.Pin).coming refl) in
-      let row = table_fields kind.Row d.cap row_format.Has d.block.row refl sound.capped tables.row row_fields in
-      let track = empty_fields kind.Track d.cap track_format.Has d.block.track ((sound.block.kinds kind.Track).coming refl) in
-      let wire = empty_fields kind.Wire d.cap wire_format.Has d.block.wire ((sound.block.kinds kind.Wire).coming refl) in
-      let blockage = empty_fields kind.Blockage d.cap blockage_format.Has d.block.blockage ((sound.block.kinds kind.Blockage).coming refl) in
-      let region = empty_fields kind.Region d.cap region_format.Has d.block.region ((sound.block.kinds kind.Region).coming refl) in
-      let group = empty_fields kind.Group d.cap group_format.Has d.block.group ((sound.block.kinds kind.Group).coming refl) in
-      let prop = empty_fields kind.Prop d.cap prop_format.Has d.block.prop ((sound.block.kinds kind.Prop).coming refl) in
-      (((((((pin, row), track), wire), blockage), region), group), prop)
+      (((((((table_is kind.Pin, table_is kind.Row), table_is kind.Track), table_is kind.Wire), table_is kind.Blockage), table_is kind.Region), table_is kind.Group), table_is kind.Prop)
 
   block_fields : (block_format d.cap).Has d.block
   unfolding block_format
@@ -520,19 +493,9 @@ saved_fields d sound = ((((tt, tt), tech_fields d.tech sound.tech), library_fiel
 -- ---- free identifiers
 
 -- no more identifiers are free than the cap
-free_few : (cap : ℕ) (b : Block) → AreTables cap b → (k : Kind) → length (free_in k b) ≤ cap
-free_few cap b are kind.Inst = table_few cap b.inst are.inst
-free_few cap b are kind.ITerm = table_few cap b.iterm are.iterm
-free_few cap b are kind.Net = table_few cap b.net are.net
-free_few cap b are kind.BTerm = table_few cap b.bterm are.bterm
-free_few cap b are kind.Pin = table_few cap b.pin are.pin
-free_few cap b are kind.Row = table_few cap b.row are.row
-free_few cap b are kind.Track = table_few cap b.track are.track
-free_few cap b are kind.Wire = table_few cap b.wire are.wire
-free_few cap b are kind.Blockage = table_few cap b.blockage are.blockage
-free_few cap b are kind.Region = table_few cap b.region are.region
-free_few cap b are kind.Group = table_few cap b.group are.group
-free_few cap b are kind.Prop = table_few cap b.prop are.prop
+free_few : (cap : ℕ) (b : Block) (k : Kind) → IsTable cap (table_of k b) → length (free_in k b) ≤ cap
+free_few cap b kind.Inst is = table_few cap b.inst is
+free_few cap b k is = table_few cap (table_of k b) is
 
 pub free_short : (d : Database) (k : Kind) → IsSoundDatabase d → IsShort (free_in k d.block)
-free_short d k sound = let few = free_few d.cap d.block (tables d sound) k in omega (arith, few, sound.capped)
+free_short d k sound = let few = free_few d.cap d.block k (sound.block.kinds k).table in omega (arith, few, sound.capped)

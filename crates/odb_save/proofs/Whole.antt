@@ -25,6 +25,7 @@ use Rattle.saved_reader.specs.Technology.{tech_format}
 use Rattle.saved_fields.proofs.FaultPlaces.{CutIn, EndsIn, IsIn, bind_in, bytes_stay}
 use Rattle.saved_fields.proofs.Codec.{IsCodec, and_codec, record_codec, same_codec}
 use Rattle.saved_reader.proofs.Records.{block_is, library_is, tech_is}
+use Rattle.saved_reader.proofs.Within.{whole_ok}
 use Rattle.saved_fields.proofs.Single.{u32_codec}
 use Rattle.odb_save.specs.Kinds.{table_in}
 use Rattle.odb_save.specs.Save.{block_bytes}
@@ -132,12 +133,6 @@ bytes_are_read cap s fits =
     let a = (saved_codec cap).back s fits (start bytes) [] (sym (append-nil bytes)) in
     let ended : eqb (0 + length bytes) (length bytes) ≡ true = eq-eqb (0 + length bytes) (length bytes) (omega arith) in
     ap (λ (r : Result (Saved × Cursor) Fault). r >>= whole (length bytes)) a.0 ∙ rw ended refl
-
-whole_ok : (count : ℕ) (p : Saved × Cursor) (s : Saved) → whole count p ≡ Ok s → (p.0 ≡ s) × (p.1.place ≡ count)
-whole_ok count p s e = elim (cases_Bool (eqb p.1.place count)) [
-  | inl t ↦ ((let h = rw t at e in ok_is p.0 s h), eqb-true p.1.place count t)
-  | inr f ↦ absurd (let h = rw f at e in cc)
-]
 
 -- what was read, where it fits, has just these bytes
 pub read_has_bytes : (cap : ℕ) (bytes : List ℕ) (s : Saved) → AreBytes bytes → saved_in cap bytes ≡ Ok s → IsSavedFields cap s → bytes ≡ saved_bytes s

@@ -7,12 +7,11 @@ use Rattle.odb_base.specs.declared.codes.kind.Kind.TheVariants as kind
 use Rattle.odb_fields.specs.Fields.{u32_bytes}
 use Rattle.slot_pool.specs.Table.{Table, record_at}
 use Rattle.block_store.specs.Block.{Block, free_in, slots_in}
+use Rattle.block_store.specs.Kinds.{table_of}
 use Rattle.block_store.proofs.Slots.{record_at_place}
-use Rattle.odb_save.specs.Kinds.{slot_in, slots_behind, table_in}
+use Rattle.odb_save.specs.Kinds.{saved_as, slot_in, slots_behind, table_in}
 use Rattle.saved_fields.specs.Bytes.{list_bytes, option_bytes, table_bytes}
-use Rattle.saved_reader.specs.Grouping.{group_format, prop_format, region_format}
-use Rattle.saved_reader.specs.Objects.{bterm_format, inst_format, iterm_format, net_format}
-use Rattle.saved_reader.specs.Physical.{blockage_format, pin_format, row_format, track_format, wire_format}
+use Rattle.saved_reader.specs.Objects.{inst_format}
 
 -- how a table is written
 pub record IsWritten (slots : ℕ) (behind slot : ℕ → List ℕ) (free : List ℕ) (whole : List ℕ) : Type 0 where
@@ -33,17 +32,7 @@ written each t = record {
 pub written_in : (k : Kind) (b : Block) → IsWritten (slots_in k b) (λ n. slots_behind n k b) (λ id. slot_in k id b) (free_in k b) (table_in k b)
 unfolding slots_behind slot_in table_in
 written_in kind.Inst b = written inst_format.bytes b.inst
-written_in kind.ITerm b = written iterm_format.bytes b.iterm
-written_in kind.Net b = written net_format.bytes b.net
-written_in kind.BTerm b = written bterm_format.bytes b.bterm
-written_in kind.Pin b = written pin_format.bytes b.pin
-written_in kind.Row b = written row_format.bytes b.row
-written_in kind.Track b = written track_format.bytes b.track
-written_in kind.Wire b = written wire_format.bytes b.wire
-written_in kind.Blockage b = written blockage_format.bytes b.blockage
-written_in kind.Region b = written region_format.bytes b.region
-written_in kind.Group b = written group_format.bytes b.group
-written_in kind.Prop b = written prop_format.bytes b.prop
+written_in k b = written (saved_as k).bytes (table_of k b)
 
 -- the three parts of a table were appended
 pub table_appended : (k : Kind) (b b' : Block) (slots : ℕ) (a x y z : List ℕ) → b ≡ b' → slots ≡ slots_in k b

@@ -5,25 +5,33 @@ use Rattle.odb_base.specs.declared.codes.kind.Kind.{Kind}
 use Rattle.odb_base.specs.declared.codes.kind.Kind.TheVariants as kind
 use Rattle.slot_pool.specs.Table.{Table, record_at}
 use Rattle.block_store.specs.Block.{Block}
+use Rattle.block_store.specs.Kinds.{Entry, table_of}
 use Rattle.saved_fields.specs.Bytes.{option_bytes, table_bytes}
+use Rattle.saved_fields.specs.Format.{Format}
 use Rattle.saved_reader.specs.Grouping.{group_format, prop_format, region_format}
 use Rattle.saved_reader.specs.Objects.{bterm_format, inst_format, iterm_format, net_format}
 use Rattle.saved_reader.specs.Physical.{blockage_format, pin_format, row_format, track_format, wire_format}
 
--- what is asked of a table and the bytes of its records, asked of that of a kind
+-- how the objects of a kind are saved
+abbrev pub saved_as : (k : Kind) → Format (Entry k)
+saved_as kind.Inst = inst_format
+saved_as kind.ITerm = iterm_format
+saved_as kind.Net = net_format
+saved_as kind.BTerm = bterm_format
+saved_as kind.Pin = pin_format
+saved_as kind.Row = row_format
+saved_as kind.Track = track_format
+saved_as kind.Wire = wire_format
+saved_as kind.Blockage = blockage_format
+saved_as kind.Region = region_format
+saved_as kind.Group = group_format
+saved_as kind.Prop = prop_format
+
+-- what is asked of a table and the bytes of its records, asked of that of a kind; spelled out at one, so that it computes
+-- at each
 abbrev pub on_saved : {R : Type 0} → ((A : Type 0) → (A → List ℕ) → Table A → R) → Kind → Block → R
 on_saved ask kind.Inst b = ask _ inst_format.bytes b.inst
-on_saved ask kind.ITerm b = ask _ iterm_format.bytes b.iterm
-on_saved ask kind.Net b = ask _ net_format.bytes b.net
-on_saved ask kind.BTerm b = ask _ bterm_format.bytes b.bterm
-on_saved ask kind.Pin b = ask _ pin_format.bytes b.pin
-on_saved ask kind.Row b = ask _ row_format.bytes b.row
-on_saved ask kind.Track b = ask _ track_format.bytes b.track
-on_saved ask kind.Wire b = ask _ wire_format.bytes b.wire
-on_saved ask kind.Blockage b = ask _ blockage_format.bytes b.blockage
-on_saved ask kind.Region b = ask _ region_format.bytes b.region
-on_saved ask kind.Group b = ask _ group_format.bytes b.group
-on_saved ask kind.Prop b = ask _ prop_format.bytes b.prop
+on_saved ask k b = ask _ (saved_as k).bytes (table_of k b)
 
 -- the table of a kind
 unfoldable pub table_in : Kind → Block → List ℕ

@@ -1,5 +1,5 @@
 -- Codecs of placements, rectangles, what isn't there yet, and tables.
-use Rattle.std.proofs.Common.{◌≡◌, ◌<◌, ◌^◌, false, eqb, ltb, ℕ, ℤ, List, Option, Some, None, Ok, refl, sym, ap, ◌∙◌, arith, inl, inr}
+use Rattle.std.proofs.Common.{Bool, ◌≡◌, ◌<◌, ◌^◌, false, eqb, ltb, ℕ, ℤ, List, Option, Some, None, Ok, refl, sym, ap, ◌∙◌, arith, inl, inr}
 use Rattle.std.proofs.lemmas.Bool.{cases_Bool, eqb-true, le-ltb}
 use Rattle.odb_base.specs.Orient.{orient_code, orients}
 use Rattle.odb_base.specs.PlaceStatus.{place_status_code, place_statuses}
@@ -104,20 +104,20 @@ within_codec k cap = record {
   stays = λ n old is. bind_in n (plain u32_at old) (within_cap k cap) (u32_codec.stays n old is) (within_stays k cap n);
 }
 
-slot_count_codec : (k : Kind) (cap : ℕ) → IsCodec (slot_count_at k cap) u32_bytes (IsSlotCount k cap)
+slot_count_codec : (built : Bool) (k : Kind) (cap : ℕ) → IsCodec (slot_count_at built k cap) u32_bytes (IsSlotCount built cap)
 unfolding slot_count_at
-slot_count_codec k cap = such_codec (may_have k) (λ i. plain u32_at i >>= within_cap k cap) u32_bytes (IsWithin cap) (within_codec k cap)
+slot_count_codec built k cap = such_codec (may_have built) (λ i. plain u32_at i >>= within_cap k cap) u32_bytes (IsWithin cap) (within_codec k cap)
 
-free_count_codec : (k : Kind) → IsCodec (free_count_at k) u32_bytes (IsFreeCount k)
+free_count_codec : (built : Bool) → IsCodec (free_count_at built) u32_bytes (IsFreeCount built)
 unfolding free_count_at
-free_count_codec k = such_codec (may_have k) (plain u32_at) u32_bytes (λ n. n < 2 ^ 32) u32_codec
+free_count_codec built = such_codec (may_have built) (plain u32_at) u32_bytes (λ n. n < 2 ^ 32) u32_codec
 
 abbrev pub table_parts : {A : Type 0} → Table A → List (Option A) × List ℕ
 table_parts t = (t.slots, t.free)
 
-pub table_codec : {A : Type 0} (k : Kind) (cap : ℕ) (each : Reading A) (writes : A → List ℕ) (Fits : A → Type 0) → IsCodec each writes Fits → IsCodec (table_at k cap each) (table_bytes writes) (IsTableOf k cap Fits)
+pub table_codec : {A : Type 0} (built : Bool) (k : Kind) (cap : ℕ) (each : Reading A) (writes : A → List ℕ) (Fits : A → Type 0) → IsCodec each writes Fits → IsCodec (table_at built k cap each) (table_bytes writes) (IsTableOf built cap Fits)
 unfolding table_at table_bytes
-table_codec {A} k cap each writes Fits codec =
-    let slots = counted_codec (option_at each) (option_bytes writes) (λ o. Unit {0} × IsOption Fits o) (option_codec each writes Fits codec) (slot_count_at k cap) (IsSlotCount k cap) (slot_count_codec k cap) in
-    let free = counted_codec id_at u32_bytes IsId id_codec (free_count_at k) (IsFreeCount k) (free_count_codec k) in
+table_codec {A} built k cap each writes Fits codec =
+    let slots = counted_codec (option_at each) (option_bytes writes) (λ o. Unit {0} × IsOption Fits o) (option_codec each writes Fits codec) (slot_count_at built k cap) (IsSlotCount built cap) (slot_count_codec built k cap) in
+    let free = counted_codec id_at u32_bytes IsId id_codec (free_count_at built) (IsFreeCount built) (free_count_codec built) in
     record_codec table_of table_parts _ _ _ (λ t. refl) (λ t. refl) (and_codec _ _ _ _ _ _ slots free)

@@ -13,10 +13,10 @@ use Rattle.odb_base.specs.declared.codes.kind.Kind.{Kind}
 use Rattle.lawful_parts.specs.Tests.{is_coordinate}
 use Rattle.saved_fields.specs.FieldFormats.{any_text_field, coded_field, coordinate_field, direction_field, distance_field, flag_field, id_field, layer_direction_field, layer_type_field, name_field, no_text_field, number_field, orient_field, region_type_field, site_class_field, small_field, text_field, track_axis_field, usage_field, wire_status_field, word_field}
 use Rattle.saved_fields.specs.Format.{Format, fields, filled_list, list, passing, ◌&◌}
-use Rattle.saved_fields.specs.PartFormats.{absent_field, ids_field, no_ids_field, no_list_field, optional, place_field, rect_field, shape_format, shape_of, shapes_field, table_field, term_field}
+use Rattle.saved_fields.specs.PartFormats.{absent_field, ids_field, no_ids_field, no_list_field, place_field, rect_field, shape_format, shape_of, shapes_field, table_field, term_field}
 use Rattle.saved_fields.proofs.Codec.{IsCodec, and_codec, record_codec}
 use Rattle.saved_fields.proofs.Compound.{absent_codec, place_codec, rect_codec, table_codec}
-use Rattle.saved_fields.proofs.Counted.{filled_list_codec, list_codec, no_list_codec, option_codec}
+use Rattle.saved_fields.proofs.Counted.{filled_list_codec, list_codec, no_list_codec}
 use Rattle.saved_fields.proofs.Sets.{directions_set, layer_directions_set, layer_types_set, orients_set, region_types_set, site_classes_set, track_axes_set, usages_set, wire_statuses_set}
 use Rattle.saved_fields.proofs.Single.{IsSet, coded_codec, distance_codec, flag_codec, id_codec, name_codec, number_codec, small_codec, such_codec, text_codec, word_codec}
 use Rattle.saved_fields.proofs.Terms.{term_codec}
@@ -43,11 +43,8 @@ list_is most is = record { codec = list_codec _ _ _ is.codec most }
 pub filled_list_is : {A : Type 0} {f : Format A} (most : ℕ) → IsFormat f → IsFormat (filled_list most f)
 filled_list_is most is = record { codec = filled_list_codec _ _ _ is.codec most }
 
-pub optional_is : {A : Type 0} {f : Format A} → IsFormat f → IsFormat (optional f)
-optional_is is = record { codec = option_codec _ _ _ is.codec }
-
-pub table_is : {A : Type 0} {f : Format A} (k : Kind) (cap : ℕ) → IsFormat f → IsFormat (table_field k cap f)
-table_is k cap is = record { codec = table_codec k cap _ _ _ is.codec }
+pub table_is : {A : Type 0} {f : Format A} (built : Bool) (k : Kind) (cap : ℕ) → IsFormat f → IsFormat (table_field built k cap f)
+table_is built k cap is = record { codec = table_codec built k cap _ _ _ is.codec }
 
 -- ---- fields
 

@@ -59,16 +59,7 @@ none_named h = absurd (omega arith)
 term_apart_by : (k : Kind) (id : ℕ) → IsTerm (term_number (k, id)) → term_parts (term_number (k, id)) ≡ (k, id)
 term_apart_by kind.ITerm id fits = ap term_parts (fitted (2 * id) fits.0) ∙ even_parts id
 term_apart_by kind.BTerm id fits = ap term_parts (fitted (2 * id + 1) fits.0) ∙ odd_parts id
-term_apart_by kind.Inst id fits = none_named fits.0
-term_apart_by kind.Net id fits = none_named fits.0
-term_apart_by kind.Pin id fits = none_named fits.0
-term_apart_by kind.Row id fits = none_named fits.0
-term_apart_by kind.Track id fits = none_named fits.0
-term_apart_by kind.Wire id fits = none_named fits.0
-term_apart_by kind.Blockage id fits = none_named fits.0
-term_apart_by kind.Region id fits = none_named fits.0
-term_apart_by kind.Group id fits = none_named fits.0
-term_apart_by kind.Prop id fits = none_named fits.0
+term_apart_by k id fits = none_named fits.0
 
 term_apart : (t : Kind × ℕ) → IsTerm (term_number t) → term_parts (term_number t) ≡ t
 term_apart t fits = term_apart_by t.0 t.1 fits

@@ -3,7 +3,6 @@ use Rattle.std.specs.Prelude.{◌≡◌, ◌<◌, ◌≤◌, ◌^◌, Bool, true
 use Rattle.std.specs.Int.{w32}
 use Rattle.std.specs.List.{AllByRecursion}
 use Rattle.std.specs.Str.{bytes_eq}
-use Rattle.odb_base.specs.declared.codes.kind.Kind.{Kind}
 use Rattle.odb_base.specs.declared.codes.orient.Orient.{Orient}
 use Rattle.odb_base.specs.declared.codes.place_status.PlaceStatus.{PlaceStatus}
 use Rattle.odb_base.specs.declared.geometry.Placement.{Placement}
@@ -78,16 +77,16 @@ IsSites t =
 abbrev pub IsWithin : ℕ → ℕ → Type 0
 IsWithin cap n = (n ≤ cap) × (n < 2 ^ 32)
 
--- how many slots a table of this kind may have
-abbrev pub IsSlotCount : Kind → ℕ → ℕ → Type 0
-IsSlotCount k cap n = (may_have k n ≡ true) × IsWithin cap n
+-- how many slots a table may have
+abbrev pub IsSlotCount : Bool → ℕ → ℕ → Type 0
+IsSlotCount built cap n = (may_have built n ≡ true) × IsWithin cap n
 
--- how many free identifiers a table of this kind may have
-abbrev pub IsFreeCount : Kind → ℕ → Type 0
-IsFreeCount k n = (may_have k n ≡ true) × (n < 2 ^ 32)
+-- how many free identifiers a table may have
+abbrev pub IsFreeCount : Bool → ℕ → Type 0
+IsFreeCount built n = (may_have built n ≡ true) × (n < 2 ^ 32)
 
 -- a table whose records fit
-abbrev pub IsTableOf : {A : Type 0} → Kind → ℕ → (A → Type 0) → Table A → Type 0
-IsTableOf k cap Fits t =
-    (IsSlotCount k cap (length t.slots) × AllByRecursion (λ o. Unit {0} × IsOption Fits o) t.slots)
-    × (IsFreeCount k (length t.free) × AllByRecursion IsId t.free)
+abbrev pub IsTableOf : {A : Type 0} → Bool → ℕ → (A → Type 0) → Table A → Type 0
+IsTableOf built cap Fits t =
+    (IsSlotCount built cap (length t.slots) × AllByRecursion (λ o. Unit {0} × IsOption Fits o) t.slots)
+    × (IsFreeCount built (length t.free) × AllByRecursion IsId t.free)

@@ -1,5 +1,5 @@
 -- The formats of the parts of which records are made: placements, rectangles, lists and tables.
-use Rattle.std.specs.Prelude.{◌≡◌, List, [], ℕ, Option, None}
+use Rattle.std.specs.Prelude.{Bool, ◌≡◌, List, [], ℕ, Option, None}
 use Rattle.odb_base.specs.declared.codes.kind.Kind.{Kind}
 use Rattle.odb_base.specs.declared.geometry.Placement.{Placement}
 use Rattle.odb_base.specs.declared.geometry.Rect.{Rect}
@@ -60,9 +60,9 @@ abbrev pub absent_field : {A : Type 0} → (A → List ℕ) → Format (Option A
 absent_field each = record { Has = λ o. o ≡ None; bytes = option_bytes each; at = absent_at }
 
 -- the table of a kind: its slots, each empty or with a record, and its free identifiers, top first
-abbrev pub table_field : {A : Type 0} → Kind → ℕ → Format A → Format (Table A)
-table_field k cap each = record {
-  Has = IsTableOf k cap each.Has;
+abbrev pub table_field : {A : Type 0} → Bool → Kind → ℕ → Format A → Format (Table A)
+table_field built k cap each = record {
+  Has = IsTableOf built cap each.Has;
   bytes = table_bytes each.bytes;
-  at = table_at k cap each.at;
+  at = table_at built k cap each.at;
 }

@@ -4,7 +4,6 @@ use Rattle.odb_base.specs.Kind.{kind_code, kinds}
 use Rattle.odb_base.specs.Orient.{orient_code, orients}
 use Rattle.odb_base.specs.PlaceStatus.{place_status_code, place_statuses}
 use Rattle.odb_base.specs.declared.codes.kind.Kind.{Kind}
-use Rattle.odb_base.specs.declared.codes.kind.Kind.TheVariants as kind
 use Rattle.odb_base.specs.declared.codes.orient.Orient.{Orient}
 use Rattle.odb_base.specs.declared.codes.place_status.PlaceStatus.{PlaceStatus}
 use Rattle.odb_base.specs.declared.codes.place_status.PlaceStatus.TheVariants as status
@@ -107,44 +106,29 @@ term_at input = made term_number (both (coded_at kind_code kinds) id_at) input
 
 -- ---- tables
 
--- the kinds whose objects there are
-abbrev pub is_built : Kind → Bool
-is_built kind.Inst = true
-is_built kind.ITerm = true
-is_built kind.Net = true
-is_built kind.BTerm = true
-is_built kind.Pin = false
-is_built kind.Row = true
-is_built kind.Track = false
-is_built kind.Wire = false
-is_built kind.Blockage = false
-is_built kind.Region = false
-is_built kind.Group = false
-is_built kind.Prop = false
-
--- a table of this kind may have so many slots or free identifiers
-abbrev pub may_have : Kind → ℕ → Bool
-may_have k n = is_built k || (n == 0)
+-- a table may have so many slots or free identifiers: one of a kind whose objects are still to come has none
+abbrev pub may_have : Bool → ℕ → Bool
+may_have built n = built || (n == 0)
 
 -- a number of slots within the cap
 abbrev pub within_cap : Kind → ℕ → ℕ × Cursor → Result (ℕ × Cursor) Fault
 within_cap k cap p = if nat_lt cap p.0 then Err (fault.OverCap k) else Ok p
 
 -- how many slots a table has
-unfoldable pub slot_count_at : Kind → ℕ → Reading ℕ
-slot_count_at k cap input = judged (such (may_have k)) (λ i. plain u32_at i >>= within_cap k cap) input
+unfoldable pub slot_count_at : Bool → Kind → ℕ → Reading ℕ
+slot_count_at built k cap input = judged (such (may_have built)) (λ i. plain u32_at i >>= within_cap k cap) input
 
 -- how many free identifiers a table has
-unfoldable pub free_count_at : Kind → Reading ℕ
-free_count_at k input = judged (such (may_have k)) (plain u32_at) input
+unfoldable pub free_count_at : Bool → Reading ℕ
+free_count_at built input = judged (such (may_have built)) (plain u32_at) input
 
 -- the table of these slots and free identifiers
 abbrev pub table_of : {A : Type 0} → List (Option A) × List ℕ → Table A
 table_of t = record { slots = t.0; free = t.1 }
 
 -- a table: its slots, each empty or with a record, and its free identifiers, top first
-unfoldable pub table_at : {A : Type 0} → Kind → ℕ → Reading A → Reading (Table A)
-table_at k cap each input = made table_of (both
-    (slot_count_at k cap by λ count. many_at count (option_at each))
-    (free_count_at k by λ count. many_at count id_at)
+unfoldable pub table_at : {A : Type 0} → Bool → Kind → ℕ → Reading A → Reading (Table A)
+table_at built k cap each input = made table_of (both
+    (slot_count_at built k cap by λ count. many_at count (option_at each))
+    (free_count_at built by λ count. many_at count id_at)
     ) input

@@ -4,14 +4,6 @@ use Rattle.std.specs.List.{flat_map}
 use Rattle.odb_fields.specs.Fields.{u32_bytes}
 use Rattle.saved_fields.specs.Bytes.{list_bytes}
 
--- four fields were appended
-pub four_appended : (a b c d e w x y z : List ℕ) → b ≡ a ++ w → c ≡ b ++ x → d ≡ c ++ y → e ≡ d ++ z → e ≡ a ++ (w ++ x ++ y ++ z)
-four_appended a b c d e w x y z first second third fourth = rw (fourth, third, second, first) (simp append_assoc)
-
--- a part was appended, and one more field behind it
-pub field_appended : (a b c part z : List ℕ) → b ≡ a ++ part → c ≡ b ++ z → c ≡ a ++ (part ++ z)
-field_appended a b c part z before last = last ∙ ap (λ l. l ++ z) before ∙ append_assoc a part z
-
 -- a part was appended, and the rest is still to be written
 pub one_appended : (was now part rest whole all : List ℕ) → now ≡ was ++ part → whole ≡ part ++ rest → was ++ whole ≡ all → now ++ rest ≡ all
 one_appended was now part rest whole all appended parts before =

@@ -1,5 +1,4 @@
 pub mod Appending
 pub mod Gathered
 pub mod Records
-pub mod Units
 pub mod Within

@@ -7,9 +7,12 @@ use Rattle.saved_reader.specs.Library.{extent_field, library_format, master_fiel
 use Rattle.saved_reader.specs.Objects.{block_direction_field, bterm_fields, bterm_format, bterm_of, inst_fields, inst_format, inst_of, is_of_block, iterm_format, iterm_of, net_fields, net_format, net_of}
 use Rattle.saved_fields.specs.PartFormats.{rect_field}
 use Rattle.saved_reader.specs.Physical.{blockage_format, blockage_of, pin_format, pin_of, row_fields, row_format, row_of, sites_field, track_format, track_of, wire_format, wire_of}
-use Rattle.saved_reader.specs.Saved.{block_format, block_of, block_parts, built_format, others_format}
+use Rattle.saved_reader.specs.Saved.{block_format, block_of, block_parts, built_format, kind_table, others_format}
 use Rattle.saved_reader.specs.Technology.{is_no_orient, layer_fields, layer_format, layer_of, site_format, site_of, tech_format, technology_of, via_format, via_name_field, via_of}
+use Rattle.odb_base.specs.declared.codes.kind.Kind.{Kind}
 use Rattle.odb_base.specs.declared.codes.kind.Kind.TheVariants as kind
+use Rattle.saved_fields.specs.Format.{Format}
+use Rattle.saved_reader.specs.Built.{is_built}
 use Rattle.saved_fields.proofs.Formats.{IsFormat, absent_is, any_text_is, coordinate_is, direction_is, distance_is, fields_are, filled_list_is, flag_is, id_is, ids_are, layer_direction_is, layer_type_is, list_is, name_is, no_ids_are, no_list_is, no_text_is, number_is, orient_is, passing_is, place_is, rect_is, region_type_is, shapes_are, site_class_is, small_is, table_is, term_is, track_axis_is, usage_is, wire_status_is, word_is, ◌and◌}
 use Rattle.saved_fields.proofs.SitesCodec.{sites_codec}
 
@@ -132,15 +135,18 @@ header_is =
     fields_are header_of header_fields (λ h. refl) (λ t. refl)
     (no_text_is and word_is (codes "/") and word_is (codes "[]") and absent_is rect_field.bytes and no_list_is definition_bytes and no_list_is via_bytes)
 
+kind_is : {A : Type 0} {f : Format A} (k : Kind) (cap : ℕ) → IsFormat f → IsFormat (kind_table k cap f)
+kind_is k cap is = table_is (is_built k) k cap is
+
 built_is : (cap : ℕ) → IsFormat (built_format cap)
 unfolding built_format
-built_is cap = table_is kind.Inst cap inst_is and table_is kind.ITerm cap iterm_is and table_is kind.Net cap net_is and table_is kind.BTerm cap bterm_is
+built_is cap = kind_is kind.Inst cap inst_is and kind_is kind.ITerm cap iterm_is and kind_is kind.Net cap net_is and kind_is kind.BTerm cap bterm_is
 
 others_are : (cap : ℕ) → IsFormat (others_format cap)
 unfolding others_format
 others_are cap =
-    table_is kind.Pin cap pin_is and table_is kind.Row cap row_is and table_is kind.Track cap track_is and table_is kind.Wire cap wire_is
-    and table_is kind.Blockage cap blockage_is and table_is kind.Region cap region_is and table_is kind.Group cap group_is and table_is kind.Prop cap prop_is
+    kind_is kind.Pin cap pin_is and kind_is kind.Row cap row_is and kind_is kind.Track cap track_is and kind_is kind.Wire cap wire_is
+    and kind_is kind.Blockage cap blockage_is and kind_is kind.Region cap region_is and kind_is kind.Group cap group_is and kind_is kind.Prop cap prop_is
 
 pub block_is : (cap : ℕ) → IsFormat (block_format cap)
 unfolding block_format

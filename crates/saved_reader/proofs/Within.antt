@@ -1,39 +1,42 @@
--- The tables that are read have no more slots than the cap allows.
-use Rattle.std.proofs.Common.{◌≡◌, ◌≤◌, eqb, ltb, ℕ, List, length, Result, Ok, Err, refl, ap, subst, ◌∙◌, arith, inl, inr}
+-- What is read is within its limits: the tables have no more slots than the cap allows, and the units of the technology
+-- are few.
+use Rattle.std.proofs.Common.{◌≡◌, ◌≤◌, eqb, leb, ltb, true, ℕ, List, length, Result, Ok, Err, refl, ap, subst, arith, inl, inr}
 use Rattle.std.specs.Prelude.{IfOk}
-use Rattle.std.proofs.lemmas.Bool.{cases_Bool, ltb-false}
+use Rattle.std.proofs.lemmas.Bool.{and_parts, cases_Bool, eqb-true, leb-true, ltb-false}
 use Rattle.odb_base.specs.declared.codes.kind.Kind.{Kind}
 use Rattle.odb_base.specs.declared.codes.kind.Kind.TheVariants as kind
 use Rattle.odb_fields.specs.Reading.{Cursor, u32_at, ◌>>=◌}
 use Rattle.odb_fields.proofs.Inputs.{bind_ok, ok_is}
-use Rattle.block_store.specs.Block.{Block, slots_in}
+use Rattle.block_records.specs.declared.header.Header.{Header}
+use Rattle.block_store.specs.Block.{slots_in}
 use Rattle.slot_pool.specs.Table.{Table}
 use Rattle.saved_fields.specs.declared.fault.ReadFault.{ReadFault}
 use Rattle.saved_reader.specs.declared.saved.Saved.{Saved}
-use Rattle.saved_fields.specs.Fields.{id_at, such}
+use Rattle.saved_fields.specs.Fields.{id_at, is_between, number_at, such}
+use Rattle.saved_reader.specs.Built.{is_built}
 use Rattle.saved_reader.specs.Grouping.{group_format, prop_format, region_format}
 use Rattle.saved_reader.specs.Header.{header_format}
 use Rattle.saved_reader.specs.Library.{library_format}
-use Rattle.saved_reader.specs.Technology.{tech_format}
+use Rattle.saved_reader.specs.Technology.{layer_format, site_format, tech_format, technology_of, via_format}
 use Rattle.saved_reader.specs.Objects.{bterm_format, inst_format, iterm_format, net_format}
-use Rattle.saved_fields.specs.Parts.{free_count_at, may_have, option_at, slot_count_at, table_at, table_of, within_cap}
+use Rattle.saved_fields.specs.Parts.{free_count_at, list_at, may_have, option_at, slot_count_at, table_at, table_of, within_cap}
 use Rattle.saved_reader.specs.Physical.{blockage_format, pin_format, row_format, track_format, wire_format}
 use Rattle.saved_fields.specs.Reading.{Reading, both, given, made, many_at, plain, ◌by◌}
-use Rattle.saved_reader.specs.Saved.{Answers, block_format, block_of, built_format, mark_at, others_format, saved_at, saved_in, saved_of, version_at, whole}
+use Rattle.saved_reader.specs.Saved.{Answers, Built, Others, block_format, block_of, built_format, mark_at, others_format, saved_at, saved_in, saved_of, version_at, whole}
 use Rattle.saved_fields.proofs.Codec.{given_ok}
 use Rattle.saved_fields.proofs.Counted.{many_count}
-use Rattle.saved_fields.proofs.Single.{such_is}
+use Rattle.saved_fields.proofs.Single.{such_is, such_passes}
 
 -- ---- the parts of what was read
 
-pub made_ok : {A B : Type 0} (value : A → B) (reads : Reading A) (old new : Cursor) (y : B) → made value reads old ≡ Ok (y, new) → (x : A) × (reads old ≡ Ok (x, new)) × (value x ≡ y)
+made_ok : {A B : Type 0} (value : A → B) (reads : Reading A) (old new : Cursor) (y : B) → made value reads old ≡ Ok (y, new) → (x : A) × (reads old ≡ Ok (x, new)) × (value x ≡ y)
 made_ok {A} {B} value reads old new y e =
     let u = bind_ok (reads old) (λ p. Ok (value p.0, p.1)) (y, new) e in
     let P : B × Cursor → Type 0 = λ t. (x : A) × (reads old ≡ Ok (x, t.1)) × (value x ≡ t.0) in
     let part : P (value u.0.0, u.0.1) = (u.0.0, u.1, refl) in
     subst P (ok_is (value u.0.0, u.0.1) (y, new) u.2) part
 
-pub and_ok : {A B : Type 0} (first : Reading A) (second : Reading B) (old new : Cursor) (p : A × B) → both first second old ≡ Ok (p, new)
+and_ok : {A B : Type 0} (first : Reading A) (second : Reading B) (old new : Cursor) (p : A × B) → both first second old ≡ Ok (p, new)
     → (mid : Cursor) × (first old ≡ Ok (p.0, mid)) × (second mid ≡ Ok (p.1, new))
 and_ok {A} {B} first second old new p e =
     let u = bind_ok (first old) (λ u. second u.1 >>= λ q. Ok ((u.0, q.0), q.1)) (p, new) e in
@@ -42,7 +45,32 @@ and_ok {A} {B} first second old new p e =
     let parts : P ((u.0.0, v.0.0), v.0.1) = (u.0.1, u.1, v.1) in
     subst P (ok_is ((u.0.0, v.0.0), v.0.1) (p, new) v.2) parts
 
+-- each value that is read is so
+record Gives {A : Type 0} (Is : A → Type 0) (reads : Reading A) : Type 0 where
+  told : (old new : Cursor) (x : A) → reads old ≡ Ok (x, new) → Is x
+
+any : {A : Type 0} (reads : Reading A) → Gives (λ x. Unit {0}) reads
+any reads = record { told = λ old new x e. tt }
+
+both_give : {A B : Type 0} {Is : A → Type 0} {Has : B → Type 0} {first : Reading A} {second : Reading B} → Gives Is first → Gives Has second → Gives (λ p. Is p.0 × Has p.1) (both first second)
+both_give {first = first} {second = second} one other = record {
+  told = λ old new p e.
+      let parts = and_ok first second old new p e in
+      (one.told old parts.0 p.0 parts.1, other.told parts.0 new p.1 parts.2);
+}
+
+made_gives : {A B : Type 0} {Is : A → Type 0} {reads : Reading A} (Has : B → Type 0) (value : A → B) → Gives Is reads → ((x : A) → Is x → Has (value x)) → Gives Has (made value reads)
+made_gives {reads = reads} Has value gives so = record {
+  told = λ old new y e.
+      let m = made_ok value reads old new y e in
+      subst Has m.2 (so m.0 (gives.told old new m.0 m.1));
+}
+
 -- ---- tables
+
+-- a table of few slots
+abbrev Few : {A : Type 0} → ℕ → Table A → Type 0
+Few cap t = length t.slots ≤ cap
 
 within_is : (k : Kind) (cap : ℕ) (p q : ℕ × Cursor) → within_cap k cap p ≡ Ok q → q.0 ≤ cap
 within_is k cap p q e = elim (cases_Bool (ltb cap p.0)) [
@@ -53,103 +81,97 @@ within_is k cap p q e = elim (cases_Bool (ltb cap p.0)) [
       omega (arith, ltb-false cap p.0 fits, n)
 ]
 
-count_within : (k : Kind) (cap : ℕ) (old new : Cursor) (n : ℕ) → slot_count_at k cap old ≡ Ok (n, new) → n ≤ cap
+count_within : (k : Kind) (cap : ℕ) (old new : Cursor) (n : ℕ) → slot_count_at (is_built k) k cap old ≡ Ok (n, new) → n ≤ cap
 unfolding slot_count_at
 count_within k cap old new n e =
-    let u = bind_ok (plain u32_at old >>= within_cap k cap) (λ p. given old.place (such (may_have k) p.0) p.1) (n, new) e in
-    let g = given_ok old.place (such (may_have k) u.0.0) u.0.1 new n u.2 in
+    let u = bind_ok (plain u32_at old >>= within_cap k cap) (λ p. given old.place (such (may_have (is_built k)) p.0) p.1) (n, new) e in
+    let g = given_ok old.place (such (may_have (is_built k)) u.0.0) u.0.1 new n u.2 in
     let v = bind_ok (plain u32_at old) (within_cap k cap) u.0 u.1 in
     let few = within_is k cap v.0 u.0 v.2 in
-    omega (arith, few, such_is (may_have k) u.0.0 n g.0)
+    omega (arith, few, such_is (may_have (is_built k)) u.0.0 n g.0)
 
-table_within : {A : Type 0} (k : Kind) (cap : ℕ) (each : Reading A) (old new : Cursor) (t : Table A) → table_at k cap each old ≡ Ok (t, new) → length t.slots ≤ cap
+table_within : {A : Type 0} (k : Kind) (cap : ℕ) (each : Reading A) → Gives (λ t. Few cap t) (table_at (is_built k) k cap each)
 unfolding table_at
-table_within {A} k cap each old new t e =
-    let m = made_ok table_of (both (slot_count_at k cap by λ count. many_at count (option_at each)) (free_count_at k by λ count. many_at count id_at)) old new t e in
-    let a = and_ok (slot_count_at k cap by λ count. many_at count (option_at each)) (free_count_at k by λ count. many_at count id_at) old new m.0 m.1 in
-    let u = bind_ok (slot_count_at k cap old) (λ p. many_at p.0 (option_at each) p.1) (m.0.0, a.0) a.1 in
-    let few = count_within k cap old u.0.1 u.0.0 u.1 in
-    let many = many_count (option_at each) u.0.0 u.0.1 a.0 m.0.0 u.2 in
-    let slots : length m.0.0 ≡ length t.slots = ap (λ (s : Table A). length s.slots) m.2 in
-    omega (arith, few, many, slots)
+table_within {A} k cap each = record {
+  told = λ old new t e.
+      let m = made_ok table_of (both (slot_count_at (is_built k) k cap by λ count. many_at count (option_at each)) (free_count_at (is_built k) by λ count. many_at count id_at)) old new t e in
+      let a = and_ok (slot_count_at (is_built k) k cap by λ count. many_at count (option_at each)) (free_count_at (is_built k) by λ count. many_at count id_at) old new m.0 m.1 in
+      let u = bind_ok (slot_count_at (is_built k) k cap old) (λ p. many_at p.0 (option_at each) p.1) (m.0.0, a.0) a.1 in
+      let few = count_within k cap old u.0.1 u.0.0 u.1 in
+      let many = many_count (option_at each) u.0.0 u.0.1 a.0 m.0.0 u.2 in
+      let slots : length m.0.0 ≡ length t.slots = ap (λ (s : Table A). length s.slots) m.2 in
+      omega (arith, few, many, slots);
+}
 
-pub block_within : (cap : ℕ) (old new : Cursor) (b : Block) → (block_format cap).at old ≡ Ok (b, new) → (k : Kind) → slots_in k b ≤ cap
+abbrev FewEach : ℕ → (Header × Built) × Others → Type 0
+FewEach cap t =
+    (Unit {0} × (((Few cap t.0.1.0.0.0 × Few cap t.0.1.0.0.1) × Few cap t.0.1.0.1) × Few cap t.0.1.1))
+    × (((((((Few cap t.1.0.0.0.0.0.0.0 × Few cap t.1.0.0.0.0.0.0.1) × Few cap t.1.0.0.0.0.0.1) × Few cap t.1.0.0.0.0.1) × Few cap t.1.0.0.0.1) × Few cap t.1.0.0.1) × Few cap t.1.0.1) × Few cap t.1.1)
+
+few_in : (cap : ℕ) (k : Kind) (t : (Header × Built) × Others) → FewEach cap t → slots_in k (block_of t) ≤ cap
+few_in cap kind.Inst t few = few.0.1.0.0.0
+few_in cap kind.ITerm t few = few.0.1.0.0.1
+few_in cap kind.Net t few = few.0.1.0.1
+few_in cap kind.BTerm t few = few.0.1.1
+few_in cap kind.Pin t few = few.1.0.0.0.0.0.0.0
+few_in cap kind.Row t few = few.1.0.0.0.0.0.0.1
+few_in cap kind.Track t few = few.1.0.0.0.0.0.1
+few_in cap kind.Wire t few = few.1.0.0.0.0.1
+few_in cap kind.Blockage t few = few.1.0.0.0.1
+few_in cap kind.Region t few = few.1.0.0.1
+few_in cap kind.Group t few = few.1.0.1
+few_in cap kind.Prop t few = few.1.1
+
+block_within : (cap : ℕ) → Gives (λ b. (k : Kind) → slots_in k b ≤ cap) (block_format cap).at
 unfolding block_format built_format others_format
-block_within cap old new b e k =
-    let insts = table_at kind.Inst cap inst_format.at in
-    let iterms = table_at kind.ITerm cap iterm_format.at in
-    let nets = table_at kind.Net cap net_format.at in
-    let bterms = table_at kind.BTerm cap bterm_format.at in
-    let pins = table_at kind.Pin cap pin_format.at in
-    let rows = table_at kind.Row cap row_format.at in
-    let tracks = table_at kind.Track cap track_format.at in
-    let wires = table_at kind.Wire cap wire_format.at in
-    let blockages = table_at kind.Blockage cap blockage_format.at in
-    let regions = table_at kind.Region cap region_format.at in
-    let groups = table_at kind.Group cap group_format.at in
-    let props = table_at kind.Prop cap prop_format.at in
-    let to_iterm = both insts iterms in
-    let to_net = both to_iterm nets in
-    let built = both to_net bterms in
-    let to_row = both pins rows in
-    let to_track = both to_row tracks in
-    let to_wire = both to_track wires in
-    let to_blockage = both to_wire blockages in
-    let to_region = both to_blockage regions in
-    let to_group = both to_region groups in
-    let others = both to_group props in
-    let m = made_ok block_of (both (both header_format.at built) others) old new b e in
-    let a = and_ok (both header_format.at built) others old new m.0 m.1 in
-    let h = and_ok header_format.at built old a.0 m.0.0 a.1 in
-    let first = m.0.0.1 in
-    let bterm = and_ok to_net bterms h.0 a.0 first h.2 in
-    let net = and_ok to_iterm nets h.0 bterm.0 first.0 bterm.1 in
-    let iterm = and_ok insts iterms h.0 net.0 first.0.0 net.1 in
-    let rest = m.0.1 in
-    let prop = and_ok to_group props a.0 new rest a.2 in
-    let group = and_ok to_region groups a.0 prop.0 rest.0 prop.1 in
-    let region = and_ok to_blockage regions a.0 group.0 rest.0.0 group.1 in
-    let blockage = and_ok to_wire blockages a.0 region.0 rest.0.0.0 region.1 in
-    let wire = and_ok to_track wires a.0 blockage.0 rest.0.0.0.0 blockage.1 in
-    let track = and_ok to_row tracks a.0 wire.0 rest.0.0.0.0.0 wire.1 in
-    let row = and_ok pins rows a.0 track.0 rest.0.0.0.0.0.0 track.1 in
-    let P : Kind → Type 0 = λ k. slots_in k (block_of m.0) ≤ cap in
-    let each : P k = elim k as P [
-      | kind.Inst ↦ table_within kind.Inst cap inst_format.at h.0 iterm.0 first.0.0.0 iterm.1
-      | kind.ITerm ↦ table_within kind.ITerm cap iterm_format.at iterm.0 net.0 first.0.0.1 iterm.2
-      | kind.Net ↦ table_within kind.Net cap net_format.at net.0 bterm.0 first.0.1 net.2
-      | kind.BTerm ↦ table_within kind.BTerm cap bterm_format.at bterm.0 a.0 first.1 bterm.2
-      | kind.Pin ↦ table_within kind.Pin cap pin_format.at a.0 row.0 rest.0.0.0.0.0.0.0 row.1
-      | kind.Row ↦ table_within kind.Row cap row_format.at row.0 track.0 rest.0.0.0.0.0.0.1 row.2
-      | kind.Track ↦ table_within kind.Track cap track_format.at track.0 wire.0 rest.0.0.0.0.0.1 track.2
-      | kind.Wire ↦ table_within kind.Wire cap wire_format.at wire.0 blockage.0 rest.0.0.0.0.1 wire.2
-      | kind.Blockage ↦ table_within kind.Blockage cap blockage_format.at blockage.0 region.0 rest.0.0.0.1 blockage.2
-      | kind.Region ↦ table_within kind.Region cap region_format.at region.0 group.0 rest.0.0.1 region.2
-      | kind.Group ↦ table_within kind.Group cap group_format.at group.0 prop.0 rest.0.1 group.2
-      | kind.Prop ↦ table_within kind.Prop cap prop_format.at prop.0 new rest.1 prop.2
-    ] in
-    let Q : Block → Type 0 = λ c. slots_in k c ≤ cap in
-    subst Q m.2 each
+block_within cap =
+    made_gives (λ b. (k : Kind) → slots_in k b ≤ cap) block_of
+    (both_give
+    (both_give (any header_format.at) (both_give (both_give (both_give (table_within kind.Inst cap inst_format.at) (table_within kind.ITerm cap iterm_format.at)) (table_within kind.Net cap net_format.at)) (table_within kind.BTerm cap bterm_format.at)))
+    (both_give (both_give (both_give (both_give (both_give (both_give (both_give (table_within kind.Pin cap pin_format.at) (table_within kind.Row cap row_format.at)) (table_within kind.Track cap track_format.at)) (table_within kind.Wire cap wire_format.at))
+    (table_within kind.Blockage cap blockage_format.at)) (table_within kind.Region cap region_format.at)) (table_within kind.Group cap group_format.at)) (table_within kind.Prop cap prop_format.at)))
+    (λ t few k. few_in cap k t few)
 
-pub whole_is : (count : ℕ) (p : Saved × Cursor) (s : Saved) → whole count p ≡ Ok s → p.0 ≡ s
-whole_is count p s e = elim (cases_Bool (eqb p.1.place count)) [
-  | inl t ↦ (let h = rw t at e in ok_is p.0 s h)
+-- ---- the units
+
+number_within : (least most : ℕ) → Gives (λ n. n ≤ most) (number_at least most)
+unfolding number_at
+number_within least most = record {
+  told = λ old new n e.
+      let passes : is_between least most n ≡ true = such_passes (is_between least most) (plain u32_at) old new n e in
+      leb-true n most (and_parts (leb least n) (leb n most) passes).1;
+}
+
+units_within : Gives (λ t. t.units ≤ 100000) tech_format.at
+unfolding tech_format
+units_within =
+    made_gives (λ t. t.units ≤ 100000) technology_of
+    (both_give (both_give (both_give (number_within 0 100000) (any (list_at 1000000 layer_format.at))) (any (list_at 1000000 via_format.at))) (any (list_at 1000000 site_format.at)))
+    (λ t few. few.0.0.0)
+
+-- ---- all of it
+
+pub whole_ok : (count : ℕ) (p : Saved × Cursor) (s : Saved) → whole count p ≡ Ok s → (p.0 ≡ s) × (p.1.place ≡ count)
+whole_ok count p s e = elim (cases_Bool (eqb p.1.place count)) [
+  | inl t ↦ ((let h = rw t at e in ok_is p.0 s h), eqb-true p.1.place count t)
   | inr f ↦ absurd (let h = rw f at e in cc)
 ]
 
--- no table that was read has more slots than the cap
-pub saved_within : (cap : ℕ) (bytes : List ℕ) (s : Saved) → saved_in cap bytes ≡ Ok s → (k : Kind) → slots_in k s.tables ≤ cap
+abbrev IsWithin : ℕ → Saved → Type 0
+IsWithin cap s = (s.tech.units ≤ 100000) × ((k : Kind) → slots_in k s.tables ≤ cap)
+
+saved_within : (cap : ℕ) (bytes : List ℕ) (s : Saved) → saved_in cap bytes ≡ Ok s → IsWithin cap s
 unfolding saved_in saved_at
-saved_within cap bytes s e k =
+saved_within cap bytes s e =
     let start : Cursor = record { bytes = bytes; place = 0 } in
     let u = bind_ok (saved_at cap start) (whole (length bytes)) s e in
-    let stocked = both (both (both mark_at version_at) tech_format.at) library_format.at in
-    let m = made_ok saved_of (both stocked (block_format cap).at) start u.0.1 u.0.0 u.1 in
-    let a = and_ok stocked (block_format cap).at start u.0.1 m.0 m.1 in
-    let few = block_within cap a.0 u.0.1 m.0.1 a.2 k in
-    let Q : Saved → Type 0 = λ t. slots_in k t.tables ≤ cap in
-    subst Q (m.2 ∙ whole_is (length bytes) u.0 s u.2) few
+    let all = made_gives (IsWithin cap) saved_of (both_give (both_give (both_give (any (both mark_at version_at)) units_within) (any library_format.at)) (block_within cap)) (λ t is. (is.0.0.1, is.1)) in
+    subst (IsWithin cap) (whole_ok (length bytes) u.0 s u.2).0 (all.told start u.0.1 u.0.0 u.1)
+
+pub answer_units : (cap : ℕ) (bytes : List ℕ) (answer : Result Saved ReadFault) → Answers answer (saved_in cap bytes) → IfOk answer (λ s. s.tech.units ≤ 100000)
+answer_units cap bytes (Ok s) e = (saved_within cap bytes s e).0
+answer_units cap bytes (Err f) e = tt
 
 pub answer_within : (cap : ℕ) (bytes : List ℕ) (answer : Result Saved ReadFault) → Answers answer (saved_in cap bytes) → IfOk answer (λ s. (k : Kind) → slots_in k s.tables ≤ cap)
-answer_within cap bytes (Ok s) e = saved_within cap bytes s e
+answer_within cap bytes (Ok s) e = (saved_within cap bytes s e).1
 answer_within cap bytes (Err f) e = tt

@@ -1,6 +1,7 @@
 -- A whole saved database.
 use Rattle.std.specs.Prelude.{◌≡◌, ◌==◌, List, ℕ, Result, Ok, Err, if◌then◌else◌, codes, length}
 use Rattle.std.specs.Str.{bytes_eq}
+use Rattle.odb_base.specs.declared.codes.kind.Kind.{Kind}
 use Rattle.odb_base.specs.declared.codes.kind.Kind.TheVariants as kind
 use Rattle.odb_fields.specs.declared.get.Cut.{Cut}
 use Rattle.odb_fields.specs.Reading.{Cursor, bytes_at, u32_at, ◌>>=◌}
@@ -26,6 +27,7 @@ use Rattle.saved_reader.specs.declared.saved.Saved.{Saved}
 use Rattle.saved_fields.specs.Fault as fault
 use Rattle.saved_fields.specs.Fault.{Fault}
 use Rattle.saved_fields.specs.Format.{Format, fields, ◌&◌}
+use Rattle.saved_reader.specs.Built.{is_built}
 use Rattle.saved_reader.specs.Grouping.{group_format, prop_format, region_format}
 use Rattle.saved_reader.specs.Header.{header_format}
 use Rattle.saved_reader.specs.Library.{library_format}
@@ -37,6 +39,10 @@ use Rattle.saved_reader.specs.Technology.{tech_format}
 
 -- ---- the block
 
+-- the table of a kind
+abbrev pub kind_table : {A : Type 0} → Kind → ℕ → Format A → Format (Table A)
+kind_table k cap each = table_field (is_built k) k cap each
+
 -- the tables of instances, their terminals, nets and block terminals
 abbrev pub Built : Type 0
 Built = ((Table InstEntry × Table ITermRec) × Table NetEntry) × Table BTermEntry
@@ -44,8 +50,8 @@ Built = ((Table InstEntry × Table ITermRec) × Table NetEntry) × Table BTermEn
 -- the tables of the kinds that there are
 unfoldable pub built_format : ℕ → Format Built
 built_format cap =
-    table_field kind.Inst cap inst_format & table_field kind.ITerm cap iterm_format
-    & table_field kind.Net cap net_format & table_field kind.BTerm cap bterm_format
+    kind_table kind.Inst cap inst_format & kind_table kind.ITerm cap iterm_format
+    & kind_table kind.Net cap net_format & kind_table kind.BTerm cap bterm_format
 
 -- the tables of pins, rows, tracks, wires, blockages, regions, groups and properties
 abbrev pub Others : Type 0
@@ -54,10 +60,10 @@ Others = ((((((Table PinRec × Table RowEntry) × Table TrackRec) × Table WireR
 -- the tables of the kinds that are still to come
 unfoldable pub others_format : ℕ → Format Others
 others_format cap =
-    table_field kind.Pin cap pin_format & table_field kind.Row cap row_format
-    & table_field kind.Track cap track_format & table_field kind.Wire cap wire_format
-    & table_field kind.Blockage cap blockage_format & table_field kind.Region cap region_format
-    & table_field kind.Group cap group_format & table_field kind.Prop cap prop_format
+    kind_table kind.Pin cap pin_format & kind_table kind.Row cap row_format
+    & kind_table kind.Track cap track_format & kind_table kind.Wire cap wire_format
+    & kind_table kind.Blockage cap blockage_format & kind_table kind.Region cap region_format
+    & kind_table kind.Group cap group_format & kind_table kind.Prop cap prop_format
 
 -- the block of this header and these tables
 abbrev pub block_of : (Header × Built) × Others → Block

@@ -1,6 +1,7 @@
 ghost use Rattle.std.specs.Prelude.{◌≡◌};
-ghost use Rattle.saved_fields.specs.Parts.{free_count_at, is_built as may_have_objects, may_have, slot_count_at, table_at};
+ghost use Rattle.saved_fields.specs.Parts.{free_count_at, may_have, slot_count_at, table_at};
 ghost use Rattle.saved_fields.specs.Reading.{Reads};
+ghost use Rattle.saved_reader.specs.Built.{is_built as may_have_objects};
 
 use crate::lists::{Spelled, get_many};
 use block_store::PlainTable;
@@ -18,7 +19,7 @@ pub fn get_table<T: Spelled>(
     kind: Kind,
     cap: u32,
 ) -> Result<PlainTable<T>, ReadFault>
-    ensures { Reads result (table_at kind cap T.format.at input.old) input.new }
+    ensures { Reads result (table_at (may_have_objects kind) kind cap T.format.at input.old) input.new }
 {
     let slot_count = get_slot_count(input, kind, cap)?;
     let slots = get_many(alloc, input, slot_count)?;
@@ -30,7 +31,7 @@ pub fn get_table<T: Spelled>(
 // Reads how many slots a table has.
 #[tactic(auto, unfolding(saved_fields::specs::Parts::slot_count_at))]
 fn get_slot_count(input: &mut Get<'_>, kind: Kind, cap: u32) -> Result<u32, ReadFault>
-    ensures { Reads result (slot_count_at kind cap input.old) input.new }
+    ensures { Reads result (slot_count_at (may_have_objects kind) kind cap input.old) input.new }
 {
     let at = input.place();
     let count = input.get_u32()?;
@@ -47,7 +48,7 @@ fn get_slot_count(input: &mut Get<'_>, kind: Kind, cap: u32) -> Result<u32, Read
 // Reads how many free identifiers a table has.
 #[tactic(auto, unfolding(saved_fields::specs::Parts::free_count_at))]
 fn get_free_count(input: &mut Get<'_>, kind: Kind) -> Result<u32, ReadFault>
-    ensures { Reads result (free_count_at kind input.old) input.new }
+    ensures { Reads result (free_count_at (may_have_objects kind) input.old) input.new }
 {
     let at = input.place();
     let count = input.get_u32()?;
@@ -59,7 +60,7 @@ fn get_free_count(input: &mut Get<'_>, kind: Kind) -> Result<u32, ReadFault>
 }
 
 fn may_count(kind: Kind, count: u32) -> bool
-    ensures { result ≡ may_have kind count }
+    ensures { result ≡ may_have (may_have_objects kind) count }
 {
     is_built(kind) || count == 0
 }

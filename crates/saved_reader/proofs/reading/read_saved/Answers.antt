@@ -1,5 +1,4 @@
-use Rattle.saved_reader.proofs.Units.{answer_units}
-use Rattle.saved_reader.proofs.Within.{answer_within}
+use Rattle.saved_reader.proofs.Within.{answer_units, answer_within}
 use Rattle.saved_reader.proofs.reading.read_saved.Goals as goal
 
 pub returns-clause-within : goal.returns-clause-within
