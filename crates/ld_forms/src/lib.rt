@@ -14,11 +14,15 @@
 #![tactic(auto)]
 
 pub mod kept;
+pub mod names;
 pub mod passing;
 pub mod place;
 pub mod short_text;
+pub mod worded;
 
 pub use kept::Kept;
+pub use names::{UNITS_LIMIT, is_name, is_via_name, per_micron_of, whole_number};
 pub use passing::{Extent, Passed, Passing, StatementsSpot};
 pub use place::{Fit, Judged, Place, is_semicolon};
 pub use short_text::ShortText;
+pub use worded::usage_of;

@@ -1,6 +1,7 @@
 -- From the words that are left to the answer for the text.
-use Rattle.std.proofs.Common.{◌≡◌, ℕ, true, false, List, [], ◌∷◌, Option, Some, None, Ok, Err, if◌then◌else◌, inl, inr, refl, sym, ap, ◌∙◌, Result}
+use Rattle.std.proofs.Common.{◌≡◌, ℕ, Bool, true, false, List, [], ◌∷◌, Option, Some, None, Ok, Err, if◌then◌else◌, inl, inr, refl, sym, ap, ◌∙◌, Result}
 use Rattle.std.specs.Option.{option_map}
+use Rattle.std.proofs.lemmas.Bool.{cases_Bool}
 use Rattle.ld_words.specs.declared.word.Word.{Word}
 use Rattle.ld_words.specs.declared.word.WordFault.{WordFault}
 use Rattle.ld_words.specs.declared.word.WordFault.TheVariants as word
@@ -10,8 +11,8 @@ use Rattle.ld_words.specs.Words.{reading_after}
 use Rattle.ld_reader.specs.declared.fault.TextFault.{TextFault}
 use Rattle.ld_reader.specs.declared.fault.TextFault.TheVariants as fault
 use Rattle.ld_reader.specs.declared.reader.Reader.{Reader}
-use Rattle.ld_reader.specs.Answers.{IsAnswer, IsKept, IsLeft, Stops, fault_in}
-use Rattle.ld_reader.specs.Reading.{at_ending, is_done, left_behind, left_from, may_end, read_from, step_of, text_from}
+use Rattle.ld_reader.specs.Answers.{IsAnswer, IsAtHand, IsBlamed, IsLeft, Stops, fault_in}
+use Rattle.ld_reader.specs.Reading.{after_step, at_ending, blamed_after, blamed_from, blamed_in, is_done, left_behind, left_from, may_end, read_from, step_of, text_from}
 use Rattle.ld_reader.specs.Rules.{Rules}
 
 -- told before a step and after it
@@ -49,14 +50,6 @@ answer_on a b (Err (fault.Word word.ReadFault)) h k = tt
 answer_on a b (Err (fault.Word word.Memory)) h k = k
 answer_on a b (Err fault.Memory) h k = tt
 
--- the fault that is kept
-pub fault-kept : {A K : Type 0} (answer : Result A (TextFault K)) (stood kept : Option WordFault) (f : WordFault) → kept ≡ Some f → answer ≡ Err (fault_in f) → IsKept stood kept answer
-fault-kept answer stood kept (word.OpenQuote line) h is = rw is (h)
-fault-kept answer stood kept (word.LongWord line) h is = rw is (h)
-fault-kept answer stood kept (word.TooLong line) h is = rw is (h)
-fault-kept answer stood kept word.ReadFault h is = rw is (h)
-fault-kept answer stood kept word.Memory h is = rw is (inr h)
-
 -- no fault stood where a word was given
 pub none-stood : {T : Type 0} (stood : Option WordFault) (given : T) → ((f : WordFault) → stood ≡ Some f → Ok given ≡ Err f) → stood ≡ None
 none-stood None given kept = refl
@@ -71,6 +64,21 @@ fault-left answer whole reading kept word.ReadFault h is = rw (is, h) refl
 fault-left answer whole reading kept word.Memory h is = rw is tt
 
 module _ {T C S K : Type 0} (g : Rules T C S K) where
+  at-end : (ends : Bool) (r : Reader T C S) (l line : ℕ) (k : K) → (if ends then Ok r else Err (fault.At l g.cut)) ≡ Err (fault.At line k) → k ≡ g.cut
+  at-end true r l line k stops = cc
+  at-end false r l line k stops = cc
+
+  no-at : (done : Bool) (r : Reader T C S) (f : WordFault) (line : ℕ) (k : K) → (if done then Ok r else Err (fault.Word f)) ≡ Err (fault.At line k) → k ≡ g.cut
+  no-at true r f line k stops = cc
+  no-at false r f line k stops = cc
+
+  on-cut : (step : Result (Reader T C S) K) (w : Word) (words : List Word) (ending : Ending) (line : ℕ) (k : K)
+      → ((next : Reader T C S) → read_from g next words ending ≡ Err (fault.At line k) → blamed_in g next words ≡ None → k ≡ g.cut)
+      → after_step g w.line step (λ next. read_from g next words ending) ≡ Err (fault.At line k)
+      → blamed_after g w.bytes step (λ next. blamed_in g next words) ≡ None → k ≡ g.cut
+  on-cut (Ok next) w words ending line k on stops none = on next stops none
+  on-cut (Err f) w words ending line k on stops none = cc
+
   -- what a word gives is what is read from the next reader on
   pub word-read : (r s : Reader T C S) (w : Word) (before after : Option Reading) → is_done g r ≡ false → step_of g r w.bytes ≡ Ok s
       → SameIfTold before (option_map (with_word w) after) → SameIfTold (option_map (text_from g r) before) (option_map (text_from g s) after)
@@ -142,18 +150,64 @@ module _ {T C S K : Type 0} (g : Rules T C S K) where
       let cut : Result (Reader T C S) (TextFault K) = Err (fault.At line g.cut) in
       elim (may_end g r) as (λ b. SameIfTold X (Some (if b then read else cut)) → IsAnswer X (if b then read else cut)) [ true ↦ λ h. h | false ↦ λ h. h ] (end-read r line before told)
 
-  -- none is kept where a word isn't taken
-  pub stop-kept : (stood kept : Option WordFault) (line : ℕ) (f : TextFault K) (read : Result (Reader T C S) K) → stood ≡ None → kept ≡ None → Stops line read f → IsKept {A = Reader T C S} stood kept (Err f)
-  stop-kept stood kept line (fault.At l k) read s h given = h
-  stop-kept stood kept line (fault.Word f) read s h given = absurd given
-  stop-kept stood kept line fault.Memory read s h given = inl (h ∙ sym s)
+  -- ---- the word at fault
 
-  -- nor where the text ends
-  pub end-kept : (stood kept : Option WordFault) (r : Reader T C S) (line : ℕ) → kept ≡ None → IsKept stood kept (at_ending g r (Done line))
-  end-kept stood kept r line h =
+  pub word-blamed : (r s : Reader T C S) (w : Word) (before after : Option Reading) → is_done g r ≡ false → step_of g r w.bytes ≡ Ok s
+      → SameIfTold before (option_map (with_word w) after) → SameIfTold (option_map (blamed_from g r) before) (option_map (blamed_from g s) after)
+  unfolding blamed_in
+  word-blamed r s w before after due given told = told_word (blamed_from g r) (blamed_from g s) w before after (λ text. rw (due, given) refl) told
+
+  word-stops-blamed : (r : Reader T C S) (w : Word) (k : K) (before after : Option Reading) → is_done g r ≡ false → step_of g r w.bytes ≡ Err k
+      → SameIfTold before (option_map (with_word w) after) → SameIfTold (option_map (blamed_from g r) before) (Some (Some w.bytes))
+  unfolding blamed_in
+  word-stops-blamed r w k None after due given told = tt
+  word-stops-blamed r w k (Some before) None due given told = absurd told
+  word-stops-blamed r w k (Some before) (Some after) due given told =
+      let first : blamed_from g r (with_word w after) ≡ Some w.bytes = rw (due, given) refl in
+      sym first ∙ ap (blamed_from g r) told
+
+  -- the word that its place doesn't take is at hand
+  at-hand : (whole : Option (Option (List ℕ))) (word : List ℕ) → SameIfTold whole (Some (Some word)) → IsAtHand whole word
+  at-hand None word same = tt
+  at-hand (Some None) word same = tt
+  at-hand (Some (Some other)) word same = cc
+
+  pub stop-blamed : (whole : Option (Option (List ℕ))) (r : Reader T C S) (w : Word) (f : TextFault K) (before after : Option Reading) → is_done g r ≡ false → Stops w.line (step_of g r w.bytes) f
+      → SameIfTold before (option_map (with_word w) after) → SameIfTold whole (option_map (blamed_from g r) before) → IsBlamed {A = Reader T C S} whole w.bytes (Err f)
+  stop-blamed whole r w (fault.At line k) before after due given told h = at-hand whole w.bytes (told_on _ _ _ h (word-stops-blamed r w k before after due given.1 told))
+  stop-blamed whole r w (fault.Word f) before after due given told h = tt
+  stop-blamed whole r w fault.Memory before after due given told h = tt
+
+  -- where the text ends no word is at fault
+  text-ends-blamed : (r : Reader T C S) (line : ℕ) (before : Option Reading) → SameIfTold before (Some (done line)) → SameIfTold (option_map (blamed_from g r) before) (Some None)
+  unfolding blamed_in
+  text-ends-blamed r line None told = tt
+  text-ends-blamed r line (Some before) told = ap (blamed_from g r) told
+
+  none-at-hand : (whole : Option (Option (List ℕ))) (word : List ℕ) → SameIfTold whole (Some None) → IsAtHand whole word
+  none-at-hand None word same = tt
+  none-at-hand (Some None) word same = tt
+  none-at-hand (Some (Some other)) word same = cc
+
+  pub end-blamed : (whole : Option (Option (List ℕ))) (word : List ℕ) (r : Reader T C S) (line : ℕ) (before : Option Reading) → SameIfTold before (Some (done line))
+      → SameIfTold whole (option_map (blamed_from g r) before) → IsBlamed whole word (at_ending g r (Done line))
+  end-blamed whole word r line before told h =
       let read : Result (Reader T C S) (TextFault K) = Ok r in
       let cut : Result (Reader T C S) (TextFault K) = Err (fault.At line g.cut) in
-      elim (may_end g r) as (λ b. IsKept stood kept (if b then read else cut)) [ true ↦ h | false ↦ h ]
+      let none = none-at-hand whole word (told_on _ _ _ h (text-ends-blamed r line before told)) in
+      elim (may_end g r) as (λ b. IsBlamed whole word (if b then read else cut)) [ true ↦ tt | false ↦ none ]
+
+  -- where no word is at fault the text ends too early
+  pub cut-only : (r : Reader T C S) (words : List Word) (ending : Ending) (line : ℕ) (k : K)
+      → read_from g r words ending ≡ Err (fault.At line k) → blamed_in g r words ≡ None → k ≡ g.cut
+  unfolding read_from blamed_in
+  cut-only r [] (Done l) line k stops none = at-end (may_end g r) r l line k stops
+  cut-only r [] (Faulty f) line k stops none = no-at (is_done g r) r f line k stops
+  cut-only r (w ∷ words) ending line k stops none = elim (cases_Bool (is_done g r)) [
+    | inl over ↦ let e = rw over at stops in cc
+    | inr due ↦
+        on-cut (step_of g r w.bytes) w words ending line k (λ next s n. cut-only next words ending line k s n) (rw due at stops) (rw due at none)
+  ]
 
   -- ---- what is left
 

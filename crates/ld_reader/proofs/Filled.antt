@@ -1,5 +1,5 @@
 -- Statements whose words fill their places, or a front of them, in any language.
-use Rattle.std.proofs.Common.{◌≡◌, ℕ, zero, suc, Bool, true, false, List, [], ◌∷◌, ◌++◌, ◌||◌, Some, None, Result, Ok, Err, if◌then◌else◌, drop, map, not, refl, sym, ap, ◌∙◌, append_assoc, inl, inr}
+use Rattle.std.proofs.Common.{◌≡◌, ℕ, zero, suc, Bool, true, false, List, [], ◌∷◌, ◌++◌, ◌||◌, Some, None, Result, Ok, Err, if◌then◌else◌, drop, is_some, map, not, refl, sym, ap, ◌∙◌, append_assoc, inl, inr}
 use Rattle.std.proofs.lemmas.Bool.{cases_Bool, true≢false}
 use Rattle.std.proofs.lemmas.List.{append-nil}
 use Rattle.ld_words.specs.declared.word.Word.{Word as WordOn}
@@ -17,8 +17,8 @@ use Rattle.ld_reader.specs.declared.fault.TextFault.{TextFault}
 use Rattle.ld_reader.specs.declared.language.Begun.TheVariants as begun
 use Rattle.ld_reader.specs.declared.reader.Reader.{Reader}
 use Rattle.ld_reader.specs.Due.{passing as passing_part}
-use Rattle.ld_reader.specs.Laws.{BadIsFault, FaultIsOnItsLine, FilledIsSet, GoesThrough, Here, LinesSayNothing, StrayIsPassedOver, StrictStrayIsFault, There, WordsBehindAreLeft, first_fit, fit_of, run}
-use Rattle.ld_reader.specs.Reading.{after, after_step, at, between, by_fit, by_places, in_form, in_passing, is_done, left_after, left_behind, moved, on_set, passed_on, read_from, reader, step_of, unless_done, whole}
+use Rattle.ld_reader.specs.Laws.{BadIsFault, Begins, Behind, With, FaultIsOnItsLine, FilledIsSet, GoesThrough, Here, LinesSayNothing, StrayIsPassedOver, StrictStrayIsFault, There, WordsBehindAreLeft, first_fit, fit_of, run}
+use Rattle.ld_reader.specs.Reading.{after, after_step, at, between, by_fit, by_places, in_form, in_passing, is_done, left_after, left_behind, moved, on_set, passed_on, read_from, reader, step_of, unless_done, whole, within}
 use Rattle.ld_reader.specs.Rules.{Rules}
 use Rattle.ld_reader.proofs.Answered.{done-read}
 
@@ -104,10 +104,18 @@ module _ {T C S K : Type 0} (g : Rules T C S K) where
     front-read (End {w = w} {ps = ps} {ws = ws} last) kept =
         on-place kept place.End ps w ws fit.Ends refl (rw last refl) ∙ keeps-none kept [] ws
 
+    -- a first word that takes one of these places
+    within-places : (ds : List (Place C)) (w : Word) → is_some (first_fit g.judged ds w) ≡ true → within g t [] s ds w ≡ by_places g t [] s ds w
+    within-places [] w takes = absurd (true≢false (sym takes))
+    within-places (p ∷ later) w takes = refl
+
     -- a statement that begins
-    begin-read : (first : Word) (words : List Word) → g.begun t first ≡ begun.Taken s → run g (at t) (first ∷ words) ≡ runs (moved g t [] s (g.places s)) words
+    begin-read : {words filling : List Word} → Begins g t s words filling → run g (at t) words ≡ runs (moved g t [] s (g.places s)) filling
     unfolding run step_of between
-    begin-read first words begins = rw (live, begins) refl
+    begin-read (Behind begins) = rw (live, begins) refl
+    begin-read (With {first = first} {words = words} begins takes) =
+        rw (live, begins) (ap (λ (r : Result (Reader T C S) K). runs r words) (within-places (due g.judged (g.places s) first) first takes)
+        ∙ sym (step-moved [] (g.places s) first words))
 
     -- a word in the place that it is to take
     by-first : (kept : List Word) (ds : List (Place C)) (w : Word) (f : Fit K) → first_fit g.judged ds w ≡ Some f → by_places g t kept s ds w ≡ by_fit g t kept s ds (drop 1 ds) f w
@@ -132,13 +140,13 @@ module _ {T C S K : Type 0} (g : Rules T C S K) where
 
   pub filled : FilledIsSet g
   unfolding moved whole
-  filled t u s first words kept rest live begins fills sets =
-      begin-read t s live first words begins ∙ front-read t s live fills [] ∙ (rw sets refl)
+  filled t u s words filling kept rest live begins fills sets =
+      begin-read t s live begins ∙ front-read t s live fills [] ∙ (rw sets refl)
 
   pub stray : StrayIsPassedOver g
   unfolding by_fit
-  stray t s first words kept places w more rest live counted loose begins fills strays through =
-      begin-read t s live first words begins ∙ front-read t s live fills [] ∙ word-read t s live kept places w more fit.Misfit strays
+  stray t s words filling kept places w more rest live counted loose begins fills strays through =
+      begin-read t s live begins ∙ front-read t s live fills [] ∙ word-read t s live kept places w more fit.Misfit strays
       ∙ (rw loose (through-read (g.counted t) counted w more rest through))
 
   -- a fault, or a `;` that is none
@@ -150,14 +158,14 @@ module _ {T C S K : Type 0} (g : Rules T C S K) where
 
   pub bad_fault : BadIsFault g
   unfolding by_fit
-  bad_fault t s first words kept places w more k live faulty begins fills is =
-      begin-read t s live first words begins ∙ front-read t s live fills [] ∙ word-read t s live kept places w more (fit.Bad k) is
+  bad_fault t s words filling kept places w more k live faulty begins fills is =
+      begin-read t s live begins ∙ front-read t s live fills [] ∙ word-read t s live kept places w more (fit.Bad k) is
       ∙ ap (λ (r : Result (Reader T C S) K). runs r more) (bad-word (g.is_strict t) (is_semicolon w) k (Ok (passed_on (g.counted t) w)) faulty)
 
   pub strict_stray : StrictStrayIsFault g
   unfolding by_fit
-  strict_stray t s first words kept places w more live strict begins fills strays =
-      begin-read t s live first words begins ∙ front-read t s live fills [] ∙ word-read t s live kept places w more fit.Misfit strays ∙ (rw strict refl)
+  strict_stray t s words filling kept places w more live strict begins fills strays =
+      begin-read t s live begins ∙ front-read t s live fills [] ∙ word-read t s live kept places w more fit.Misfit strays ∙ (rw strict refl)
 
   -- on with a word that its place takes
   step-on : (line : ℕ) (step : Result (Reader T C S) K) (next : Reader T C S) (words : List Word) (read : Reader T C S → Result (Reader T C S) (TextFault K)) (answer : Result (Reader T C S) (TextFault K))

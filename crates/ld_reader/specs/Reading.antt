@@ -1,5 +1,5 @@
 -- Reading a text word by word by the rules of its language. Each word is taken by its place, with no view of later words.
-use Rattle.std.specs.Prelude.{◌++◌, ◌&&◌, ◌||◌, Bool, true, false, List, [], ◌∷◌, ℕ, Result, Ok, Err, if◌then◌else◌}
+use Rattle.std.specs.Prelude.{◌++◌, ◌&&◌, ◌||◌, Bool, true, false, List, [], ◌∷◌, ℕ, Option, Some, None, Result, Ok, Err, if◌then◌else◌}
 use Rattle.ld_forms.specs.declared.passing.Passed.{Passed}
 use Rattle.ld_forms.specs.declared.passing.Passed.TheVariants as passed
 use Rattle.ld_forms.specs.declared.passing.Passing.{Passing}
@@ -52,17 +52,6 @@ module _ {T C S K : Type 0} (g : Rules T C S K) where
   moved t kept s [] = whole t kept s
   moved t kept s (p ∷ places) = Ok (reader t kept (due_word.in_form s (p ∷ places)))
 
-  -- what a first word begins
-  abbrev pub begun_by : T → List Word → Word → Begun C S K → Result (Reader T C S) K
-  begun_by t kept word (begun.Taken s) = moved t kept s (g.places s)
-  begun_by t kept word (begun.TakenWith s) = moved t (kept ++ word ∷ []) s (g.places s)
-  begun_by t kept word (begun.Passed extent) = Ok (reader (g.counted t) kept (due_word.passing (passing_of extent)))
-  begun_by t kept word (begun.Bad k) = Err k
-
-  -- a first word
-  unfoldable pub between : T → List Word → Word → Result (Reader T C S) K
-  between t kept word = begun_by t kept word (g.begun t word)
-
   -- a word that doesn't belong to its statement
   abbrev pub misfit : T → Word → Result (Reader T C S) K
   misfit t word = if g.is_strict t then Err g.unexpected else Ok (passed_on (g.counted t) word)
@@ -83,6 +72,22 @@ module _ {T C S K : Type 0} (g : Rules T C S K) where
   by_fit t kept s places later fit.Ends word = whole t kept s
   by_fit t kept s places later fit.Misfit word = misfit t word
   by_fit t kept s places later (fit.Bad k) word = bad t k word
+
+  -- a first word of a statement that takes the first of these places
+  abbrev pub within : T → List Word → S → List (Place C) → Word → Result (Reader T C S) K
+  within t kept s [] word = misfit t word
+  within t kept s (p ∷ later) word = by_fit t kept s (p ∷ later) later (fit_in g.judged p word) word
+
+  -- what a first word begins
+  abbrev pub begun_by : T → List Word → Word → Begun C S K → Result (Reader T C S) K
+  begun_by t kept word (begun.Taken s) = moved t kept s (g.places s)
+  begun_by t kept word (begun.Within s) = within t kept s (due g.judged (g.places s) word) word
+  begun_by t kept word (begun.Passed extent) = Ok (reader (g.counted t) kept (due_word.passing (passing_of extent)))
+  begun_by t kept word (begun.Bad k) = Err k
+
+  -- a first word
+  unfoldable pub between : T → List Word → Word → Result (Reader T C S) K
+  between t kept word = begun_by t kept word (g.begun t word)
 
   -- on from a reader, or its fault
   abbrev pub after : Result (Reader T C S) K → (Reader T C S → Result (Reader T C S) K) → Result (Reader T C S) K
@@ -171,6 +176,26 @@ module _ {T C S K : Type 0} (g : Rules T C S K) where
   -- the answer for a text
   abbrev pub text_of : T → WordsRead → Answer
   text_of t text = text_from (at t) text
+
+  -- ---- the word at fault
+
+  -- on with the next reader, or this word, which its place doesn't take
+  abbrev pub blamed_after : Word → Result (Reader T C S) K → (Reader T C S → Option Word) → Option Word
+  blamed_after word (Ok next) rest = rest next
+  blamed_after word (Err k) rest = Some word
+
+  -- the first of these words that its place doesn't take, if there is one
+  unfoldable pub blamed_in : Reader T C S → List WordOn → Option Word
+  blamed_in r [] = None
+  blamed_in r (word ∷ words) =
+      if is_done r then None
+      else blamed_after word.bytes (step_of r word.bytes) (λ next. blamed_in next words)
+
+  abbrev pub blamed_from : Reader T C S → WordsRead → Option Word
+  blamed_from r text = blamed_in r text.words
+
+  abbrev pub blamed_of : T → WordsRead → Option Word
+  blamed_of t text = blamed_from (at t) text
 
   -- ---- what is left
 

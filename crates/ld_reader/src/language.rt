@@ -10,8 +10,8 @@ use std::alloc::Global;
 pub enum Begun<C, S, K> {
     /// This statement.
     Taken(S),
-    /// This statement, of which the first word is kept.
-    TakenWith(S),
+    /// This statement, in whose places the word itself stands.
+    Within(S),
     /// A part that is passed over.
     Passed(Extent<C>),
     /// Nothing, which is this fault.

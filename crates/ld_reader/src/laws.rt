@@ -1,6 +1,6 @@
 // Laws of statements. Each is the contract of a function that does nothing.
 
-ghost use Rattle.ld_reader.specs.Laws.{BadIsFault, FaultIsOnItsLine, FilledIsSet, LinesSayNothing, StrayIsPassedOver, StrictStrayIsFault, WordsBehindAreLeft};
+ghost use Rattle.ld_reader.specs.Laws.{BadIsFault, EndIsCut, FaultIsOnItsLine, FilledIsSet, LinesSayNothing, StrayIsPassedOver, StrictStrayIsFault, WordsBehindAreLeft};
 
 use crate::language::Language;
 
@@ -15,9 +15,10 @@ pub fn statements_are_read<L: Language>()
 {}
 
 /// The lines of words say nothing but where a fault is, which is on the line of the first word that its place doesn't
-/// take, and words behind the last one that was due are left.
+/// take, and words behind the last one that was due are left. Where no word is at fault, the text ends too early.
 pub fn words_are_read_in_order<L: Language>()
     ensures lines { LinesSayNothing L.rules }
     ensures fault { FaultIsOnItsLine L.rules }
+    ensures cut { EndIsCut L.rules }
     ensures left { WordsBehindAreLeft L.rules }
 {}

@@ -20,7 +20,7 @@ pub struct Reader<T, C: 'static, S> {
 }
 
 impl<L: Language> Reader<L, L::Class, L::Statement> {
-    ghost use Rattle.ld_reader.specs.Reading.{at, bad, between, by_fit, by_places, in_form, in_passing, is_done, is_first, may_end, misfit, moved, passed_on, step_of, unless_done, whole};
+    ghost use Rattle.ld_reader.specs.Reading.{at, bad, between, by_fit, by_places, in_form, in_passing, is_done, is_first, may_end, misfit, moved, passed_on, step_of, unless_done, whole, within};
 
     /// Before the first word of a text. It takes no memory.
     pub fn new(alloc: Global, so_far: L) -> Reader<L, L::Class, L::Statement>
@@ -73,9 +73,8 @@ impl<L: Language> Reader<L, L::Class, L::Statement> {
     {
         match self.so_far.begun(word) {
             Begun::Taken(statement) => self.moved(alloc, statement, L::places(statement)),
-            Begun::TakenWith(statement) => {
-                self.kept.push(alloc, word)?;
-                self.moved(alloc, statement, L::places(statement))
+            Begun::Within(statement) => {
+                self.within(alloc, statement, due::<L>(L::places(statement), word), word)
             }
             Begun::Passed(extent) => {
                 self.so_far.count();
@@ -84,6 +83,23 @@ impl<L: Language> Reader<L, L::Class, L::Statement> {
             }
             Begun::Bad(kind) => Err(Stop::Fault(kind)),
         }
+    }
+
+    // A first word of a statement that takes the first of these places.
+    fn within(
+        &mut self,
+        alloc: Global,
+        statement: L::Statement,
+        places: &'static [Place<L::Class>],
+        word: &[u8],
+    ) -> Result<(), Stop<L::Kind>>
+        ensures { Gives (within L.rules self.old.so_far self.old.kept statement places.now word.now) self.new result }
+    {
+        let [place, later @ ..] = places else {
+            return self.misfit(word);
+        };
+        let fit = fit::<L>(*place, word);
+        self.by_fit(alloc, statement, places, later, fit, word)
     }
 
     // Behind a place of a statement, with these places behind it.

@@ -3,9 +3,9 @@ ghost use Rattle.std.specs.Option.{option_map};
 ghost use Rattle.odb_outside.specs.Outside.{Rose};
 ghost use Rattle.ld_words.specs.Cause.{is_read_fault};
 ghost use Rattle.ld_words.specs.Reading.{Done};
-ghost use Rattle.ld_words.specs.Words.{fault_of, reading_left, source_of};
-ghost use Rattle.ld_reader.specs.Answers.{GivesOn, IsAnswer, IsKept, IsLeft, fault_in};
-ghost use Rattle.ld_reader.specs.Reading.{at_ending, left_of, step_of, text_of};
+ghost use Rattle.ld_words.specs.Words.{fault_of, reading_left, source_of, word_of};
+ghost use Rattle.ld_reader.specs.Answers.{GivesOn, IsAnswer, IsBlamed, IsKept, IsLeft, fault_in};
+ghost use Rattle.ld_reader.specs.Reading.{at_ending, blamed_of, left_of, step_of, text_of};
 
 use crate::fault::{Stop, TextFault};
 use crate::language::Language;
@@ -20,6 +20,8 @@ use std::alloc::Global;
 /// `At` comes exactly at the first word that its place doesn't take, with its line, or with the line on which the text
 /// ends where it ends too early. `Word` hands on a fault of the words.
 ///
+/// The word that its place doesn't take is still at hand then.
+///
 /// The words behind the last one that was due, or behind the word at fault, are left to be read. After `Memory` no fault
 /// is kept in `words` but one that stood there, or want of memory for a word.
 pub fn read_text<L: Language, S: Source + Drop>(
@@ -29,6 +31,7 @@ pub fn read_text<L: Language, S: Source + Drop>(
 ) -> Result<Reader<L, L::Class, L::Statement>, TextFault<L::Kind>>
     requires { L.rules.is_done so_far ≡ false }
     ensures answer { IsAnswer (option_map (text_of L.rules so_far) (reading_left words.old)) result }
+    ensures blamed { IsBlamed (option_map (blamed_of L.rules so_far) (reading_left words.old)) (word_of words.new).bytes result }
     ensures left { IsLeft (option_map (left_of L.rules so_far) (reading_left words.old)) (reading_left words.new) result }
 
     // `Word` comes exactly where `advance` answered the fault, which is kept there.

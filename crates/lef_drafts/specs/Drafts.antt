@@ -13,7 +13,7 @@ use Rattle.lef_forms.specs.declared.form.Statement.{Statement}
 use Rattle.lef_forms.specs.declared.form.Statement.TheVariants as statement
 use Rattle.lef_forms.specs.declared.keyword.Keyword.TheVariants as keyword
 use Rattle.lef_forms.specs.Keywords.{is}
-use Rattle.lef_forms.specs.Numbers.{per_micron_in}
+use Rattle.ld_forms.specs.Names.{per_micron_in}
 use Rattle.lef_drafts.specs.declared.draft.Closed.{Closed}
 use Rattle.lef_drafts.specs.declared.draft.Closed.TheVariants as closed
 use Rattle.lef_drafts.specs.declared.draft.Draft.{Draft}

@@ -4,7 +4,7 @@ use Rattle.std.specs.Option.{option_and_then}
 use Rattle.ld_forms.specs.Kept.{has_word}
 use Rattle.lef_forms.specs.declared.symmetry.Symmetry.{Symmetry}
 use Rattle.lef_forms.specs.declared.symmetry.Symmetry.TheVariants as symmetry
-use Rattle.lef_forms.specs.Numbers.{is_name}
+use Rattle.ld_forms.specs.Names.{is_name}
 use Rattle.lef_forms.specs.Symmetry.{symmetry_code, symmetry_word}
 use Rattle.lef_tree.specs.declared.tree.LefRect.{LefRect}
 

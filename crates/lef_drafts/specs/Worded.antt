@@ -12,7 +12,8 @@ use Rattle.odb_base.specs.declared.codes.usage.Usage.{Usage}
 use Rattle.odb_base.specs.declared.codes.usage.Usage.TheVariants as usage
 use Rattle.lef_forms.specs.declared.keyword.Keyword.TheVariants as keyword
 use Rattle.lef_forms.specs.Keywords.{text_of}
-use Rattle.lef_forms.specs.WordSets.{direction_in, layer_direction_in, layer_type_in, site_class_in, usage_in}
+use Rattle.lef_forms.specs.WordSets.{direction_in, layer_direction_in, layer_type_in, site_class_in}
+use Rattle.ld_forms.specs.Worded.{usage_in}
 use Rattle.lef_drafts.specs.Values.{Words, one_of}
 use Rattle.ld_forms.specs.Kept.{has_word}
 

@@ -7,8 +7,8 @@ use crate::values::{name, one_or_two, rect, symmetries, two, word};
 use crate::worded::{
     layer_direction_named, layer_type_named, pin_direction_named, pin_use_named, site_class_named,
 };
-use ld_forms::Kept;
-use lef_forms::{Statement, per_micron_of};
+use ld_forms::{Kept, per_micron_of};
+use lef_forms::Statement;
 use lef_tree::{LefLayer, LefMacro, LefPin, LefShape, LefSite};
 use odb_base::{List, Name};
 use std::alloc::{AllocError, Global};

@@ -118,7 +118,7 @@ fn bit(words: &Kept, symmetry: Symmetry) -> u8
 }
 
 /// The name that a word is.
-#[tactic(auto, unfolding(lef_forms::specs::Numbers::is_name))]
+#[tactic(auto, unfolding(ld_forms::specs::Names::is_name))]
 pub fn name_of_word(alloc: Global, word: &[u8]) -> Result<Option<Name>, AllocError>
     ensures { IfOk result (λ name. name ≡ name_in word.now) }
 {

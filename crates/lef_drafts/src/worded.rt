@@ -1,10 +1,8 @@
 ghost use Rattle.std.specs.Prelude.{◌≡◌};
 ghost use Rattle.lef_drafts.specs.Worded.{layer_direction_named, layer_type_named, pin_direction_named, pin_use_named, site_class_named};
 
-use ld_forms::Kept;
-use lef_forms::{
-    Keyword, direction_of, layer_direction_of, layer_type_of, site_class_of, usage_of,
-};
+use ld_forms::{Kept, usage_of};
+use lef_forms::{Keyword, direction_of, layer_direction_of, layer_type_of, site_class_of};
 use odb_base::{Direction, LayerDirection, LayerType, SiteClass, Usage};
 
 /// The type of a layer that the first word names.

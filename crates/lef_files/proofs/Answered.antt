@@ -39,7 +39,7 @@ answered (Some bytes) (Err fault.Memory) told = tt
 -- the source is ready after what isn't a fault of the call
 pub ready_on : (P : Type 0) (stood kept : Option WordFault) (answer : Answer) → IsKept stood kept answer → (is_read_fault kept ≡ false → P) → OnOk (outcome_of answer) P
 ready_on P stood kept (Ok tree) is ready = ready (ap is_read_fault is)
-ready_on P stood kept (Err (fault.At line k)) is ready = ready (ap is_read_fault is)
+ready_on P stood kept (Err (fault.At line k)) is ready = ready (ap is_read_fault is.0)
 ready_on P stood kept (Err (fault.Word (word.OpenQuote line))) is ready = ready (ap is_read_fault is)
 ready_on P stood kept (Err (fault.Word (word.LongWord line))) is ready = ready (ap is_read_fault is)
 ready_on P stood kept (Err (fault.Word (word.TooLong line))) is ready = ready (ap is_read_fault is)

@@ -7,7 +7,8 @@ use Rattle.lef_forms.specs.declared.class.Class.TheVariants as class
 use Rattle.lef_forms.specs.declared.kind.LefKind.{LefKind}
 use Rattle.lef_forms.specs.declared.kind.LefKind.TheVariants as kind
 use Rattle.lef_forms.specs.Keywords.{is}
-use Rattle.lef_forms.specs.Numbers.{is_name, is_number, is_via_name, per_micron_in}
+use Rattle.ld_forms.specs.Names.{is_name, is_via_name, per_micron_in}
+use Rattle.lef_forms.specs.Numbers.{is_number}
 use Rattle.lef_forms.specs.WordSets.{has}
 
 -- one of the class, or what it is instead

@@ -1,7 +1,5 @@
 -- The words that a place may take, and what they name.
 use Rattle.std.specs.Prelude.{◌||◌, Bool, List, [], ◌∷◌, ℕ, Option, is_some, not}
-use Rattle.std.specs.List.{find}
-use Rattle.std.specs.Str.{bytes_eq}
 use Rattle.odb_base.specs.declared.codes.direction.Direction.{Direction}
 use Rattle.odb_base.specs.declared.codes.direction.Direction.TheVariants as direction
 use Rattle.odb_base.specs.declared.codes.layer_direction.LayerDirection.{LayerDirection}
@@ -10,25 +8,19 @@ use Rattle.odb_base.specs.declared.codes.layer_type.LayerType.{LayerType}
 use Rattle.odb_base.specs.declared.codes.layer_type.LayerType.TheVariants as layer_type
 use Rattle.odb_base.specs.declared.codes.site_class.SiteClass.{SiteClass}
 use Rattle.odb_base.specs.declared.codes.site_class.SiteClass.TheVariants as site_class
-use Rattle.odb_base.specs.declared.codes.usage.Usage.{Usage}
-use Rattle.odb_base.specs.declared.codes.usage.Usage.TheVariants as usage
 use Rattle.odb_base.specs.Direction.{direction_word}
 use Rattle.odb_base.specs.LayerDirection.{layer_direction_word}
 use Rattle.odb_base.specs.LayerType.{layer_type_word}
 use Rattle.odb_base.specs.SiteClass.{site_class_word}
-use Rattle.odb_base.specs.Usage.{usage_word}
 use Rattle.lef_forms.specs.declared.symmetry.Symmetry.{Symmetry}
 use Rattle.lef_forms.specs.declared.symmetry.Symmetry.TheVariants as symmetry
 use Rattle.lef_forms.specs.declared.keyword.Keyword.TheVariants as keyword
 use Rattle.lef_forms.specs.declared.word_set.WordSet.{WordSet}
 use Rattle.lef_forms.specs.declared.word_set.WordSet.TheVariants as set
 use Rattle.ld_forms.specs.Places.{is_semicolon}
+use Rattle.ld_forms.specs.Worded.{named, usage_in}
 use Rattle.lef_forms.specs.Keywords.{is}
 use Rattle.lef_forms.specs.Symmetry.{symmetry_word}
-
--- the first of these values whose word this is
-abbrev pub named : {A : Type 0} → (A → List ℕ) → List A → List ℕ → Option A
-named word_of values word = find (λ value. bytes_eq (word_of value) word) values
 
 -- TYPE of a layer
 unfoldable pub layer_type_in : List ℕ → Option LayerType
@@ -49,10 +41,6 @@ symmetry_in word = named symmetry_word (symmetry.X ∷ symmetry.Y ∷ symmetry.R
 -- DIRECTION of a pin that is no output
 unfoldable pub direction_in : List ℕ → Option Direction
 direction_in word = named direction_word (direction.Input ∷ direction.Inout ∷ direction.Feedthru ∷ []) word
-
--- USE of a pin
-unfoldable pub usage_in : List ℕ → Option Usage
-usage_in word = named usage_word (usage.Signal ∷ usage.Analog ∷ usage.Power ∷ usage.Ground ∷ usage.Clock ∷ usage.Reset ∷ usage.Scan ∷ usage.TieOff ∷ []) word
 
 -- the third word of a longer current density, or the first word of a further statement of it
 unfoldable pub is_density_word : List ℕ → Bool

@@ -3,9 +3,9 @@ ghost use Rattle.lef_forms.specs.Classes.{fits_or, judged};
 
 use crate::keyword::Keyword;
 use crate::kind::LefKind;
-use crate::number::{is_name, is_number, is_via_name, per_micron_of};
+use crate::number::is_number;
 use crate::word_set::WordSet;
-use ld_forms::Judged;
+use ld_forms::{Judged, is_name, is_via_name, per_micron_of};
 
 /// A class of words, of which a place takes one.
 #[derive(Clone, Copy, Debug, PartialEq, Eq)]

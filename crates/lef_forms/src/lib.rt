@@ -24,8 +24,8 @@ pub use class::{Class, judge};
 pub use form::{Form, Section, Statement};
 pub use keyword::Keyword;
 pub use kind::LefKind;
-pub use number::{UNITS_LIMIT, is_name, is_number, is_via_name, per_micron_of};
+pub use number::is_number;
 pub use symmetry::Symmetry;
 pub use word_set::{
-    WordSet, direction_of, layer_direction_of, layer_type_of, site_class_of, symmetry_of, usage_of,
+    WordSet, direction_of, layer_direction_of, layer_type_of, site_class_of, symmetry_of,
 };

@@ -1,12 +1,10 @@
 ghost use Rattle.std.specs.Prelude.{◌≡◌};
-ghost use Rattle.std.specs.List.{find};
-ghost use Rattle.std.specs.Str.{bytes_eq};
-ghost use Rattle.lef_forms.specs.WordSets.{direction_in, has, is_density_word, layer_direction_in, layer_type_in, site_class_in, symmetry_in, usage_in};
+ghost use Rattle.lef_forms.specs.WordSets.{direction_in, has, is_density_word, layer_direction_in, layer_type_in, site_class_in, symmetry_in};
 
 use crate::keyword::Keyword;
 use crate::symmetry::Symmetry;
-use ld_forms::is_semicolon;
-use odb_base::{Direction, LayerDirection, LayerType, SiteClass, Usage, Worded};
+use ld_forms::{is_semicolon, usage_of};
+use odb_base::{Direction, LayerDirection, LayerType, SiteClass, Worded};
 
 /// The words that a place may take (LEF/DEF 5.8 Language Reference). In a set of codes the words for nothing
 /// and for anything else are no words of LEF.
@@ -56,24 +54,12 @@ fn is_density_word(word: &[u8]) -> bool
     Keyword::Frequency.is(word) || Keyword::Width.is(word) || Keyword::CutArea.is(word)
 }
 
-// The value among these whose word this is.
-fn named<T: Worded>(values: &[T], word: &[u8]) -> Option<T>
-    ensures { result ≡ find (λ value. bytes_eq (T.word_of value) word.now) values.now }
-{
-    for value in values {
-        if value.word() == word {
-            return Some(*value);
-        }
-    }
-    None
-}
-
 /// The type of layer that a word names.
 #[tactic(auto, unfolding(crate::specs::WordSets::layer_type_in))]
 pub fn layer_type_of(word: &[u8]) -> Option<LayerType>
     ensures { result ≡ layer_type_in word.now }
 {
-    named(
+    LayerType::named_among(
         &[
             LayerType::Routing,
             LayerType::Cut,
@@ -90,7 +76,7 @@ pub fn layer_type_of(word: &[u8]) -> Option<LayerType>
 pub fn layer_direction_of(word: &[u8]) -> Option<LayerDirection>
     ensures { result ≡ layer_direction_in word.now }
 {
-    named(
+    LayerDirection::named_among(
         &[LayerDirection::Horizontal, LayerDirection::Vertical],
         word,
     )
@@ -101,7 +87,7 @@ pub fn layer_direction_of(word: &[u8]) -> Option<LayerDirection>
 pub fn site_class_of(word: &[u8]) -> Option<SiteClass>
     ensures { result ≡ site_class_in word.now }
 {
-    named(&[SiteClass::Core, SiteClass::Pad], word)
+    SiteClass::named_among(&[SiteClass::Core, SiteClass::Pad], word)
 }
 
 /// The symmetry that a word names.
@@ -109,7 +95,7 @@ pub fn site_class_of(word: &[u8]) -> Option<SiteClass>
 pub fn symmetry_of(word: &[u8]) -> Option<Symmetry>
     ensures { result ≡ symmetry_in word.now }
 {
-    named(&[Symmetry::X, Symmetry::Y, Symmetry::R90], word)
+    Symmetry::named_among(&[Symmetry::X, Symmetry::Y, Symmetry::R90], word)
 }
 
 /// The direction of a pin that a word names by itself, which is no output.
@@ -117,28 +103,8 @@ pub fn symmetry_of(word: &[u8]) -> Option<Symmetry>
 pub fn direction_of(word: &[u8]) -> Option<Direction>
     ensures { result ≡ direction_in word.now }
 {
-    named(
+    Direction::named_among(
         &[Direction::Input, Direction::Inout, Direction::Feedthru],
-        word,
-    )
-}
-
-/// The use of a pin that a word names.
-#[tactic(auto, unfolding(crate::specs::WordSets::usage_in))]
-pub fn usage_of(word: &[u8]) -> Option<Usage>
-    ensures { result ≡ usage_in word.now }
-{
-    named(
-        &[
-            Usage::Signal,
-            Usage::Analog,
-            Usage::Power,
-            Usage::Ground,
-            Usage::Clock,
-            Usage::Reset,
-            Usage::Scan,
-            Usage::TieOff,
-        ],
         word,
     )
 }

@@ -31,7 +31,8 @@ use Rattle.lef_forms.specs.declared.word_set.WordSet.{WordSet}
 use Rattle.lef_forms.specs.declared.word_set.WordSet.TheVariants as set
 use Rattle.lef_forms.specs.Forms.{form_of}
 use Rattle.lef_forms.specs.Keywords.{is, text_of}
-use Rattle.lef_forms.specs.Numbers.{is_name, is_number}
+use Rattle.ld_forms.specs.Names.{is_name}
+use Rattle.lef_forms.specs.Numbers.{is_number}
 use Rattle.lef_forms.specs.Symmetry.{symmetry_word}
 use Rattle.lef_forms.specs.WordSets.{has, symmetry_in}
 use Rattle.lef_drafts.specs.declared.draft.Draft.TheVariants as draft

@@ -10,7 +10,8 @@ use Rattle.lef_forms.specs.declared.keyword.Keyword.TheVariants as keyword
 use Rattle.lef_forms.specs.declared.word_set.WordSet.TheVariants as set
 use Rattle.lef_forms.specs.Forms.{form_of}
 use Rattle.lef_forms.specs.Keywords.{is, text_of}
-use Rattle.lef_forms.specs.Numbers.{is_name, is_number, is_orientation, is_via_name}
+use Rattle.ld_forms.specs.Names.{is_name, is_orientation, is_via_name}
+use Rattle.lef_forms.specs.Numbers.{is_number}
 use Rattle.ld_forms.specs.Places.{fit_in, is_semicolon, left_out}
 use Rattle.ld_reader.specs.Laws.{run}
 use Rattle.ld_reader.specs.Reading.{between, by_fit, in_form, moved, step_of, whole}

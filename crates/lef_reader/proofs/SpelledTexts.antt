@@ -5,7 +5,7 @@ use Rattle.ld_words.specs.declared.word.Word.{Word}
 use Rattle.ld_words.specs.Reading.{Done, Ending, Faulty}
 use Rattle.lef_forms.specs.Forms.{form_of}
 use Rattle.lef_forms.specs.Keywords.{is}
-use Rattle.lef_forms.specs.Numbers.{per_micron_in}
+use Rattle.ld_forms.specs.Names.{per_micron_in}
 use Rattle.ld_forms.specs.Places.{fit_in, is_semicolon, left_out}
 use Rattle.ld_reader.specs.Laws.{LinesSayNothing, WordsBehindAreLeft as LeaveBehind, run}
 use Rattle.ld_reader.specs.Reading.{between, by_fit, in_form, moved, step_of, whole, read_from, left_behind, reader, at}

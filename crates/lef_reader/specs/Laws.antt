@@ -6,7 +6,7 @@ use Rattle.ld_words.specs.Reading.{Ending, Reading as WordsRead}
 use Rattle.lef_forms.specs.declared.keyword.Keyword.TheVariants as keyword
 use Rattle.lef_forms.specs.Forms.{form_of}
 use Rattle.lef_forms.specs.Keywords.{is}
-use Rattle.lef_forms.specs.Numbers.{is_name, is_orientation, is_via_name}
+use Rattle.ld_forms.specs.Names.{is_name, is_orientation, is_via_name}
 use Rattle.lef_drafts.specs.declared.draft.Draft.{Draft}
 use Rattle.lef_drafts.specs.declared.draft.Draft.TheVariants as draft
 use Rattle.ld_forms.specs.Places.{is_semicolon}

@@ -4,7 +4,8 @@ use Rattle.std.specs.List.{AllByRecursion, flat_map}
 use Rattle.odb_base.specs.declared.codes.direction.Direction.TheVariants as direction
 use Rattle.lef_forms.specs.declared.form.Section.TheVariants as section
 use Rattle.lef_forms.specs.declared.word_set.WordSet.TheVariants as set
-use Rattle.lef_forms.specs.Numbers.{is_name, is_number}
+use Rattle.ld_forms.specs.Names.{is_name}
+use Rattle.lef_forms.specs.Numbers.{is_number}
 use Rattle.lef_forms.specs.WordSets.{has}
 use Rattle.lef_tree.specs.declared.tree.LefMacro.{LefMacro}
 use Rattle.lef_tree.specs.declared.tree.LefPin.{LefPin}

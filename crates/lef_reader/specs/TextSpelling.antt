@@ -1,7 +1,7 @@
 -- Texts spelled out by their sections, and what they say.
 use Rattle.std.specs.Prelude.{◌≡◌, ◌++◌, true, List, [], ◌∷◌, ℕ, codes, fold, is_some, unwrap_or}
 use Rattle.std.specs.List.{AllByRecursion}
-use Rattle.lef_forms.specs.Numbers.{is_name, is_via_name, per_micron_in}
+use Rattle.ld_forms.specs.Names.{is_name, is_via_name, per_micron_in}
 use Rattle.lef_tree.specs.declared.tree.LefItem.{LefItem}
 use Rattle.lef_tree.specs.declared.tree.LefItem.TheVariants as item
 use Rattle.lef_tree.specs.declared.tree.LefTree.{LefTree}

@@ -1,7 +1,7 @@
 use Rattle.std.proofs.Common.{◌<◌, drop, sym, ◌∙◌, arith}
-use Rattle.lef_forms.specs.Numbers.{per_micron_in}
-use Rattle.lef_forms.proofs.Digits.{stays_too_great}
-use Rattle.lef_forms.proofs.number.per_micron_of.Goals as goal
+use Rattle.ld_forms.specs.Names.{per_micron_in}
+use Rattle.ld_forms.proofs.Digits.{stays_too_great}
+use Rattle.ld_forms.proofs.names.per_micron_of.Goals as goal
 
 pub returns-then-number-gt-UNITS_LIMIT : goal.returns-then-number-gt-UNITS_LIMIT
 unfolding per_micron_in

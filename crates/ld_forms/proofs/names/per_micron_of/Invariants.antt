@@ -1,6 +1,6 @@
 use Rattle.std.proofs.Common.{◌≡◌, ◌≤◌, drop}
-use Rattle.lef_forms.specs.Numbers.{per_micron_with}
-use Rattle.lef_forms.proofs.number.per_micron_of.Given as goal
+use Rattle.ld_forms.specs.Names.{per_micron_with}
+use Rattle.ld_forms.proofs.names.per_micron_of.Given as goal
 
 abbrev pub invariant-loop-digit : goal.invariant-loop-digit
 invariant-loop-digit l = record {
