@@ -10,3 +10,6 @@ pub mod Digits
 pub mod Grouped
 pub mod Decoded
 pub mod Accepted
+pub mod Sizes
+pub mod WordSizes
+pub mod Room

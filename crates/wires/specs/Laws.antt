@@ -1,5 +1,5 @@
 -- Laws of codes, over all codes and paths.
-use Rattle.std.specs.Prelude.{◌≡◌, ◌<◌, ◌^◌, List, ℕ, Ok, FitsSigned, IfSome, length}
+use Rattle.std.specs.Prelude.{◌≡◌, ◌<◌, ◌^◌, ◌+◌, Bool, List, ℕ, Ok, FitsSigned, IfSome, length}
 use Rattle.std.specs.Int.{w32}
 use Rattle.std.specs.List.{AllByRecursion}
 use Rattle.odb_fields.specs.Bytes.{AreBytes}
@@ -7,6 +7,9 @@ use Rattle.wires.specs.declared.limits.Limits.{Limits}
 use Rattle.wires.specs.Pieces.{AreNumbers, Layer, Piece, Point, Rect, Via}
 use Rattle.wires.specs.Paths.{ArePaths, NamedByNumber, paths_bytes, pieces_of}
 use Rattle.wires.specs.Reading.{items_of}
+use Rattle.wires.specs.declared.path_reader.PathReader.{PathReader}
+use Rattle.wires.specs.PathReading.{NamedPath, finished, read_all, start}
+use Rattle.wires.specs.PathSpelling.{joined, paths_words}
 
 -- the code of lawful paths is read as their elements
 abbrev pub CodesAreReadBack : Type 0
@@ -31,3 +34,8 @@ IsHeld (Rect dx1 dy1 dx2 dy2) = FitsSigned w32 dx1 × FitsSigned w32 dy1 × Fits
 abbrev pub AcceptedCodesAreDecoded : Type 0
 AcceptedCodesAreDecoded = (limits : Limits) (paths : List NamedByNumber) (pieces : List Piece) → AreNumbers limits → AllByRecursion IsHeld (pieces_of paths) → AreBytes (paths_bytes paths)
     → items_of limits (paths_bytes paths) ≡ Ok pieces → (pieces ≡ pieces_of paths) × ArePaths limits paths
+
+-- paths that were read take from the room, which is 1,000,000 bytes, what their words take, written whole with one space between them
+abbrev pub WordsTakeRoom : Type 0
+WordsTakeRoom = (special : Bool) (words : List (List ℕ)) (reader : PathReader) (paths : List NamedPath) → read_all (start special) words ≡ Ok reader → finished reader ≡ Ok paths
+    → reader.room + length (joined (paths_words special paths)) ≡ 1000000

@@ -2,7 +2,9 @@ pub mod Fields
 pub mod Gathered
 pub mod Laws
 pub mod Paths
+pub mod PathPlaces
 pub mod PathReading
+pub mod PathSpelling
 pub mod PathWords
 pub mod Pieces
 pub mod Reading

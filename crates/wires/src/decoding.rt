@@ -11,6 +11,7 @@ use crate::limits::Limits;
 use crate::path::{Element, Path, Paths, Taper, ViaRef};
 use odb_base::{List, Text};
 use std::alloc::{AllocError, Global};
+use std::mem;
 
 /// The paths of a code. Its numbers name one of so many layers, of so many vias of the technology and of so
 /// many of the block.
@@ -51,12 +52,32 @@ fn decode_within(alloc: Global, code: &[u8], limits: Limits) -> Result<Paths, Wi
     ensures elements { IfOk result (λ paths. items_of limits code.now ≡ Ok (pieces_of paths)) }
     ensures fault { IfErr result (λ fault. (fault ≡ WireFault.Memory) ⊎ (items_of limits code.now ≡ Err fault)) }
 {
-    let mut elements = Elements::new(code);
     let mut paths = PathsSoFar::new(alloc);
-    'elements: while let Some(item) = elements.next(limits)? {
-        paths = paths.with(alloc, item)?;
+    match read_elements(&mut paths, alloc, code, limits) {
+        Ok(()) => Ok(paths.closed()?),
+        Err(fault) => {
+            drop(paths);
+            Err(fault)
+        }
     }
-    Ok(paths.closed()?)
+}
+
+// Puts the elements of a code to no paths.
+fn read_elements(
+    paths: &mut PathsSoFar,
+    alloc: Global,
+    code: &[u8],
+    limits: Limits,
+) -> Result<(), WireFault>
+    requires { gathered paths.old ≡ [] }
+    ensures elements { OnOk result (items_of limits code.now ≡ Ok (gathered paths.new)) }
+    ensures fault { IfErr result (λ fault. (fault ≡ WireFault.Memory) ⊎ (items_of limits code.now ≡ Err fault)) }
+{
+    let mut elements = Elements::new(code);
+    'elements: while let Some(item) = elements.next(limits)? {
+        paths.put(alloc, item)?;
+    }
+    Ok(())
 }
 
 /// Paths that were decoded, and the last of them, to which more may come.
@@ -77,12 +98,12 @@ impl PathsSoFar {
         }
     }
 
-    // With one more element.
-    fn with(self, alloc: Global, item: Item<'_>) -> Result<PathsSoFar, AllocError>
-        requires place { IsTrue (has_place self (piece_of item)) }
+    // Puts one more element to the paths.
+    fn put(&mut self, alloc: Global, item: Item<'_>) -> Result<(), AllocError>
+        requires place { IsTrue (has_place self.old (piece_of item)) }
         requires taper { IsTrue (is_tapered (piece_of item)) }
-        ensures gathered { IfOk result (λ paths. gathered paths ≡ gathered self ++ piece_of item.entry ∷ []) }
-        ensures last { IfOk result (λ paths. IsTrue (is_some paths.last)) }
+        ensures gathered { OnOk result (gathered self.new ≡ gathered self.old ++ piece_of item.entry ∷ []) }
+        ensures last { OnOk result (IsTrue (is_some self.new.last)) }
     {
         match item {
             Item::Layer {
@@ -99,44 +120,36 @@ impl PathsSoFar {
                     taper: taper_of(alloc, taper, rule)?,
                     elements: List::new(alloc),
                 };
-                self.opened(path)
+                self.open(path)
             }
-            Item::Point { x, y, ext } => self.grown(Element::Point { x, y, ext }),
-            Item::Via { block, via, orient } => self.grown(Element::Via {
+            Item::Point { x, y, ext } => self.grow(Element::Point { x, y, ext }),
+            Item::Via { block, via, orient } => self.grow(Element::Via {
                 via: via_ref(block, via),
                 orient,
             }),
-            Item::Rect { dx1, dy1, dx2, dy2 } => self.grown(Element::Rect { dx1, dy1, dx2, dy2 }),
+            Item::Rect { dx1, dy1, dx2, dy2 } => self.grow(Element::Rect { dx1, dy1, dx2, dy2 }),
         }
     }
 
-    // With a new open path.
-    fn opened(self, path: Path<u32, ViaRef>) -> Result<PathsSoFar, AllocError>
-        ensures gathered { IfOk result (λ paths. gathered paths ≡ gathered self ++ path_pieces path) }
-        ensures last { IfOk result (λ paths. IsTrue (is_some paths.last)) }
+    // Opens a new path.
+    fn open(&mut self, path: Path<u32, ViaRef>) -> Result<(), AllocError>
+        ensures gathered { OnOk result (gathered self.new ≡ gathered self.old ++ path_pieces path) }
+        ensures last { OnOk result (IsTrue (is_some self.new.last)) }
     {
-        let done = self.closed()?;
-        Ok(PathsSoFar {
-            done,
-            last: Some(path),
-        })
+        match mem::replace(&mut self.last, Some(path)) {
+            Some(ended) => self.done.push(ended),
+            None => Ok(()),
+        }
     }
 
-    // With one more element of the open path.
-    fn grown(self, element: Element<ViaRef>) -> Result<PathsSoFar, AllocError>
-        requires { IsTrue (is_some self.last) }
-        ensures gathered { IfOk result (λ paths. gathered paths ≡ gathered self ++ element_piece element ∷ []) }
-        ensures last { IfOk result (λ paths. IsTrue (is_some paths.last)) }
+    // Puts one more element to the open path.
+    fn grow(&mut self, element: Element<ViaRef>) -> Result<(), AllocError>
+        requires { IsTrue (is_some self.old.last) }
+        ensures gathered { OnOk result (gathered self.new ≡ gathered self.old ++ element_piece element ∷ []) }
+        ensures last { OnOk result (IsTrue (is_some self.new.last)) }
     {
-        let PathsSoFar { done, last } = self;
-        match last {
-            Some(mut path) => {
-                path.elements.push(element)?;
-                Ok(PathsSoFar {
-                    done,
-                    last: Some(path),
-                })
-            }
+        match &mut self.last {
+            Some(path) => path.elements.push(element),
             None => unreachable!(),
         }
     }

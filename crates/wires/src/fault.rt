@@ -1,6 +1,7 @@
 ghost use Rattle.std.specs.Prelude.{◌≡◌};
 ghost use Rattle.wires.specs.declared.fault.WireFault.TheVariants.{Memory};
-ghost use Rattle.wires.specs.declared.fault.PathFault.TheVariants.{Memory as NoMemory};
+ghost use Rattle.wires.specs.declared.fault.PathFault.TheVariants.{Memory as no_memory};
+ghost use Rattle.wires.specs.declared.fault.PathStop.TheVariants.{Memory as stopped_by_memory};
 
 use odb_base::Text;
 use std::alloc::AllocError;
@@ -23,6 +24,36 @@ impl From<AllocError> for WireFault {
     }
 }
 
+/// What is wrong with a word of paths.
+#[derive(Clone, Copy, Debug, PartialEq, Eq)]
+pub enum PathFlaw {
+    /// It begins something that paths can't have here.
+    Unsupported,
+    /// It stands where a number can, and can't stand there.
+    BadNumber,
+    /// It stands where a name can, and can't stand there.
+    BadName,
+    /// It stands where certain words alone can, and is none of them.
+    Unexpected,
+}
+
+/// Why a word of paths isn't taken.
+#[derive(Clone, Copy, Debug, PartialEq, Eq)]
+pub enum PathStop {
+    /// This is wrong with it.
+    Flaw(PathFlaw),
+    /// There is no memory for the paths. It says nothing of the word.
+    Memory,
+}
+
+impl From<AllocError> for PathStop {
+    ghost from_gives = { λ _ e. e ≡ stopped_by_memory };
+
+    fn from(_fault: AllocError) -> PathStop {
+        PathStop::Memory
+    }
+}
+
 /// Why words are no paths.
 #[derive(Debug, Drop)]
 pub enum PathFault {
@@ -35,7 +66,7 @@ pub enum PathFault {
 }
 
 impl From<AllocError> for PathFault {
-    ghost from_gives = { λ _ e. e ≡ NoMemory };
+    ghost from_gives = { λ _ e. e ≡ no_memory };
 
     fn from(_fault: AllocError) -> PathFault {
         PathFault::Memory

@@ -6,7 +6,7 @@ const LIMIT: u64 = odb_base::COORDINATE_LIMIT as u64;
 
 /// The number of a word: an optional minus and digits, within the limit of coordinates.
 #[tactic(auto, unfolding(crate::specs::PathWords::number_of))]
-pub fn number(word: &[u8]) -> Option<i32>
+pub fn signed_number(word: &[u8]) -> Option<i32>
     ensures { result ≡ number_of word.now }
 {
     let negative = starts_negative(word);

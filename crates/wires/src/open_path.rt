@@ -1,23 +1,26 @@
-ghost use Rattle.std.specs.Prelude.{◌≡◌, IfOk, Ok};
+ghost use Rattle.std.specs.Prelude.{◌≡◌, Some, IfOk};
 ghost use Rattle.wires.specs.Paths.{IsShort};
 ghost use Rattle.wires.specs.PathWords.{orient_from};
-ghost use Rattle.wires.specs.PathReading.{Gives, after_via, begun, due_in, element_step, ended, first_step, head_step, path_step, point_step, rect_step, with_element, with_point as with_point_of};
+ghost use Rattle.wires.specs.PathReading.{Takes, begun, between_step, element_step, ended, head_step, path_step, point_step, rect_step, rule_step, shape_step, via_step, width_step, with_point, with_rect, with_taper};
 
-use crate::fault::PathFault;
 use crate::path::{Element, Path, Taper};
 use crate::path_word::{PathWord, orient_of_word};
-use crate::place_words::{coordinate_of_word, number_of_word, size_of_word, text_of_name, via_of};
+use crate::place_words::{text_of_name, via_of};
 use crate::spot::{HeadSpot, PointSpot, RectSpot, Spot};
 use odb_base::{List, Name, Point, Text};
-use std::alloc::Global;
+use std::alloc::{AllocError, Global};
+use std::mem;
 
-type NamedPath = Path<Name, Name>;
-
-/// A path of which words may still come: what it is so far, its former point, and which word is due.
+/// A path of which words may still come.
 #[derive(Debug, Drop)]
 pub struct OpenPath {
+    /// What it is so far.
     pub path: Path<Name, Name>,
+    /// The point that stands last.
     pub former: Option<Point>,
+    /// The via that stands last and has no orientation yet.
+    pub via: Option<Name>,
+    /// Which word is due.
     pub spot: Spot,
 }
 
@@ -41,269 +44,265 @@ impl OpenPath {
                 elements: List::new(alloc),
             },
             former: None,
+            via: None,
             spot: Spot::Head(spot),
         }
     }
 
-    /// With one more word.
+    /// Takes a word, which stands for this number where it stands for one, if it may stand here.
     #[tactic(auto, unfolding(crate::specs::PathReading::path_step))]
-    pub fn step(self, alloc: Global, word: &[u8]) -> Result<OpenPath, PathFault>
-        ensures value { Gives result (path_step self word.now) }
-        ensures short { IsShort self.path → IfOk result (λ next. IsShort next.path) }
+    pub fn step(
+        &mut self,
+        alloc: Global,
+        number: Option<i32>,
+        word: &[u8],
+    ) -> Result<bool, AllocError>
+        ensures value { IfOk result (Takes (path_step number self.old word.now) self.new) }
+        ensures short { IsShort self.old.path → IsShort self.new.path }
     {
-        let OpenPath { path, former, spot } = self;
-        match spot {
-            Spot::Head(spot) => with_head_word(alloc, spot, path, former, word),
-            Spot::Point(spot) => with_point_word(spot, path, former, word),
-            Spot::Rect(spot) => with_rect_word(spot, path, former, word),
-            Spot::Element => with_element_word(alloc, path, former, word),
-            Spot::AfterVia(via) => with_word_after_via(alloc, via, path, former, word),
+        match self.spot {
+            Spot::Head(spot) => self.take_head_word(alloc, spot, number, word),
+            Spot::Point(spot) => self.take_point_word(spot, number, word),
+            Spot::Rect(spot) => self.take_rect_word(spot, number, word),
+            Spot::Element => self.take_between(alloc, word),
         }
     }
 
     /// The path, where it may end.
-    pub fn ended(self) -> Result<Path<Name, Name>, PathFault>
-        ensures value { Gives result (ended self.spot self.path) }
+    pub fn ended(self) -> Result<Path<Name, Name>, AllocError>
+        ensures value { IfOk result (λ path. path ≡ ended self) }
         ensures short { IsShort self.path → IfOk result IsShort }
     {
         let OpenPath {
             mut path,
             former: _,
-            spot,
+            via,
+            spot: _,
         } = self;
-        match spot {
-            Spot::Element => Ok(path),
-            Spot::AfterVia(via) => {
-                path.elements.push(Element::Via { via, orient: None })?;
-                Ok(path)
+        match via {
+            None => Ok(path),
+            Some(via) => match path.elements.push(Element::Via { via, orient: None }) {
+                Ok(()) => Ok(path),
+                Err(AllocError) => {
+                    drop(path);
+                    Err(AllocError)
+                }
+            },
+        }
+    }
+
+    #[tactic(auto, unfolding(crate::specs::PathReading::head_step))]
+    fn take_head_word(
+        &mut self,
+        alloc: Global,
+        spot: HeadSpot,
+        number: Option<i32>,
+        word: &[u8],
+    ) -> Result<bool, AllocError>
+        ensures value { IfOk result (Takes (head_step spot number self.old word.now) self.new) }
+        ensures short { IsShort self.old.path → IsShort self.new.path }
+    {
+        let next = match spot {
+            HeadSpot::Width => return Ok(self.take_width(number)),
+            HeadSpot::ShapeName => return self.take_shape(alloc, word),
+            HeadSpot::RuleName => return self.take_rule(alloc, word),
+            HeadSpot::AfterWidth if PathWord::Plus.is(word) => Spot::Head(HeadSpot::Shape),
+            HeadSpot::Shape if PathWord::Shape.is(word) => Spot::Head(HeadSpot::ShapeName),
+            HeadSpot::AfterLayer if PathWord::Taper.is(word) => {
+                self.set_taper(Taper::Layer);
+                return Ok(true);
             }
-            Spot::Head(_) | Spot::Point(_) | Spot::Rect(_) => Err(PathFault::Bad),
+            HeadSpot::AfterLayer if PathWord::TaperRule.is(word) => Spot::Head(HeadSpot::RuleName),
+            HeadSpot::AfterWidth | HeadSpot::AfterLayer | HeadSpot::Last
+                if PathWord::Open.is(word) => { Spot::Point(PointSpot::X) }
+            HeadSpot::AfterWidth | HeadSpot::AfterLayer | HeadSpot::Last | HeadSpot::Shape => {
+                return Ok(false);
+            }
+        };
+        self.spot = next;
+        Ok(true)
+    }
+
+    fn take_width(&mut self, width: Option<i32>) -> bool
+        ensures value { Takes (width_step width self.old) self.new result }
+        ensures short { IsShort self.old.path → IsShort self.new.path }
+    {
+        match width {
+            Some(width) => {
+                self.path.width = width;
+                self.spot = Spot::Head(HeadSpot::AfterWidth);
+                true
+            }
+            None => false,
         }
     }
-}
 
-#[tactic(auto, unfolding(crate::specs::PathReading::head_step))]
-fn with_head_word(
-    alloc: Global,
-    spot: HeadSpot,
-    mut path: NamedPath,
-    former: Option<Point>,
-    word: &[u8],
-) -> Result<OpenPath, PathFault>
-    ensures value { Gives result (head_step spot path former word.now) }
-    ensures short { IsShort path → IfOk result (λ next. IsShort next.path) }
-{
-    let next = match spot {
-        HeadSpot::Width => {
-            path.width = size_of_word(word)?;
-            HeadSpot::AfterWidth
+    #[tactic(auto, unfolding(crate::specs::PathReading::shape_step))]
+    fn take_shape(&mut self, alloc: Global, word: &[u8]) -> Result<bool, AllocError>
+        ensures value { IfOk result (Takes (shape_step word.now self.old) self.new) }
+        ensures short { IsShort self.old.path → IsShort self.new.path }
+    {
+        match text_of_name(alloc, word)? {
+            Some(shape) => {
+                drop(mem::replace(&mut self.path.shape, shape));
+                self.spot = Spot::Head(HeadSpot::Last);
+                Ok(true)
+            }
+            None => Ok(false),
         }
-        HeadSpot::ShapeName => {
-            path.shape = text_of_name(alloc, word)?;
-            HeadSpot::Last
-        }
-        HeadSpot::RuleName => {
-            path.taper = Taper::Rule(text_of_name(alloc, word)?);
-            HeadSpot::Last
-        }
-        HeadSpot::AfterWidth if PathWord::Plus.is(word) => HeadSpot::Shape,
-        HeadSpot::Shape if PathWord::Shape.is(word) => HeadSpot::ShapeName,
-        HeadSpot::AfterLayer if PathWord::Taper.is(word) => {
-            path.taper = Taper::Layer;
-            HeadSpot::Last
-        }
-        HeadSpot::AfterLayer if PathWord::TaperRule.is(word) => HeadSpot::RuleName,
-        HeadSpot::AfterWidth | HeadSpot::AfterLayer | HeadSpot::Last => {
-            return with_first_point(path, former, word);
-        }
-        HeadSpot::Shape => return Err(PathFault::Bad),
-    };
-    Ok(OpenPath {
-        path,
-        former,
-        spot: Spot::Head(next),
-    })
-}
-
-fn with_first_point(
-    path: NamedPath,
-    former: Option<Point>,
-    word: &[u8],
-) -> Result<OpenPath, PathFault>
-    ensures value { Gives result (first_step path former word.now) }
-    ensures short { IsShort path → IfOk result (λ next. IsShort next.path) }
-{
-    if PathWord::Open.is(word) {
-        Ok(OpenPath {
-            path,
-            former,
-            spot: Spot::Point(PointSpot::X),
-        })
-    } else {
-        Err(PathFault::Bad)
     }
-}
 
-#[tactic(auto, unfolding(crate::specs::PathReading::point_step))]
-fn with_point_word(
-    spot: PointSpot,
-    path: NamedPath,
-    former: Option<Point>,
-    word: &[u8],
-) -> Result<OpenPath, PathFault>
-    ensures value { Gives result (point_step spot path former word.now) }
-    ensures short { IsShort path → IfOk result (λ next. IsShort next.path) }
-{
-    let next = match spot {
-        PointSpot::X => PointSpot::Y {
-            x: coordinate_of_word(former.map(|p| p.x), word)?,
-        },
-        PointSpot::Y { x } => PointSpot::AfterY {
-            point: Point {
-                x,
-                y: coordinate_of_word(former.map(|p| p.y), word)?,
-            },
-        },
-        PointSpot::AfterY { point } if PathWord::Close.is(word) => {
-            return with_point(path, point, None);
+    #[tactic(auto, unfolding(crate::specs::PathReading::rule_step))]
+    fn take_rule(&mut self, alloc: Global, word: &[u8]) -> Result<bool, AllocError>
+        ensures value { IfOk result (Takes (rule_step word.now self.old) self.new) }
+        ensures short { IsShort self.old.path → IsShort self.new.path }
+    {
+        match text_of_name(alloc, word)? {
+            Some(rule) => {
+                self.set_taper(Taper::Rule(rule));
+                Ok(true)
+            }
+            None => Ok(false),
         }
-        PointSpot::AfterY { point } => PointSpot::Close {
-            point,
-            ext: size_of_word(word)?,
-        },
-        PointSpot::Close { point, ext } if PathWord::Close.is(word) => {
-            return with_point(path, point, Some(ext));
-        }
-        PointSpot::Close { .. } => return Err(PathFault::Bad),
-    };
-    Ok(OpenPath {
-        path,
-        former,
-        spot: Spot::Point(next),
-    })
-}
+    }
 
-fn with_point(mut path: NamedPath, point: Point, ext: Option<i32>) -> Result<OpenPath, PathFault>
-    ensures value { Gives result (Ok (with_point_of path point ext)) }
-    ensures short { IsShort path → IfOk result (λ next. IsShort next.path) }
-{
-    path.elements.push(Element::Point {
-        x: point.x,
-        y: point.y,
-        ext,
-    })?;
-    Ok(OpenPath {
-        path,
-        former: Some(point),
-        spot: Spot::Element,
-    })
-}
+    fn set_taper(&mut self, taper: Taper)
+        ensures { self.new ≡ with_taper taper self.old }
+    {
+        drop(mem::replace(&mut self.path.taper, taper));
+        self.spot = Spot::Head(HeadSpot::Last);
+    }
 
-#[tactic(auto, unfolding(crate::specs::PathReading::rect_step))]
-fn with_rect_word(
-    spot: RectSpot,
-    path: NamedPath,
-    former: Option<Point>,
-    word: &[u8],
-) -> Result<OpenPath, PathFault>
-    ensures value { Gives result (rect_step spot path former word.now) }
-    ensures short { IsShort path → IfOk result (λ next. IsShort next.path) }
-{
-    let next = match spot {
-        RectSpot::Open if PathWord::Open.is(word) => RectSpot::X1,
-        RectSpot::X1 => RectSpot::Y1 {
-            dx1: number_of_word(word)?,
-        },
-        RectSpot::Y1 { dx1 } => RectSpot::X2 {
-            first: Point {
-                x: dx1,
-                y: number_of_word(word)?,
+    #[tactic(auto, unfolding(crate::specs::PathReading::point_step))]
+    fn take_point_word(
+        &mut self,
+        spot: PointSpot,
+        number: Option<i32>,
+        word: &[u8],
+    ) -> Result<bool, AllocError>
+        ensures value { IfOk result (Takes (point_step spot number self.old word.now) self.new) }
+        ensures short { IsShort self.old.path → IsShort self.new.path }
+    {
+        let next = match (spot, number) {
+            (PointSpot::X, Some(x)) => PointSpot::Y { x },
+            (PointSpot::Y { x }, Some(y)) => PointSpot::AfterY {
+                point: Point { x, y },
             },
-        },
-        RectSpot::X2 { first } => RectSpot::Y2 {
-            first,
-            dx2: number_of_word(word)?,
-        },
-        RectSpot::Y2 { first, dx2 } => RectSpot::Close {
-            first,
-            second: Point {
-                x: dx2,
-                y: number_of_word(word)?,
+            (PointSpot::AfterY { point }, Some(ext)) => PointSpot::Close { point, ext },
+            (PointSpot::AfterY { point }, None) if PathWord::Close.is(word) => {
+                return self.put_point(point, None);
+            }
+            (PointSpot::Close { point, ext }, _) if PathWord::Close.is(word) => {
+                return self.put_point(point, Some(ext));
+            }
+            _ => return Ok(false),
+        };
+        self.spot = Spot::Point(next);
+        Ok(true)
+    }
+
+    fn put_point(&mut self, point: Point, ext: Option<i32>) -> Result<bool, AllocError>
+        ensures value { IfOk result (Takes (Some (with_point point ext self.old)) self.new) }
+        ensures short { IsShort self.old.path → IsShort self.new.path }
+    {
+        self.path.elements.push(Element::Point {
+            x: point.x,
+            y: point.y,
+            ext,
+        })?;
+        self.former = Some(point);
+        self.spot = Spot::Element;
+        Ok(true)
+    }
+
+    #[tactic(auto, unfolding(crate::specs::PathReading::rect_step))]
+    fn take_rect_word(
+        &mut self,
+        spot: RectSpot,
+        number: Option<i32>,
+        word: &[u8],
+    ) -> Result<bool, AllocError>
+        ensures value { IfOk result (Takes (rect_step spot number self.old word.now) self.new) }
+        ensures short { IsShort self.old.path → IsShort self.new.path }
+    {
+        let next = match (spot, number) {
+            (RectSpot::Open, _) if PathWord::Open.is(word) => RectSpot::X1,
+            (RectSpot::X1, Some(dx1)) => RectSpot::Y1 { dx1 },
+            (RectSpot::Y1 { dx1 }, Some(dy1)) => RectSpot::X2 {
+                first: Point { x: dx1, y: dy1 },
             },
-        },
-        RectSpot::Close { first, second } if PathWord::Close.is(word) => {
-            return with_rect(path, former, first, second);
+            (RectSpot::X2 { first }, Some(dx2)) => RectSpot::Y2 { first, dx2 },
+            (RectSpot::Y2 { first, dx2 }, Some(dy2)) => RectSpot::Close {
+                first,
+                second: Point { x: dx2, y: dy2 },
+            },
+            (RectSpot::Close { first, second }, _) if PathWord::Close.is(word) => {
+                return self.put_rect(first, second);
+            }
+            _ => return Ok(false),
+        };
+        self.spot = Spot::Rect(next);
+        Ok(true)
+    }
+
+    fn put_rect(&mut self, first: Point, second: Point) -> Result<bool, AllocError>
+        ensures value { IfOk result (Takes (Some (with_rect first second self.old)) self.new) }
+        ensures short { IsShort self.old.path → IsShort self.new.path }
+    {
+        self.path.elements.push(Element::Rect {
+            dx1: first.x,
+            dy1: first.y,
+            dx2: second.x,
+            dy2: second.y,
+        })?;
+        self.spot = Spot::Element;
+        Ok(true)
+    }
+
+    // Takes the orientation of the via that stands last, or the first word of an element.
+    fn take_between(&mut self, alloc: Global, word: &[u8]) -> Result<bool, AllocError>
+        ensures value { IfOk result (Takes (between_step self.old.via self.old word.now) self.new) }
+        ensures short { IsShort self.old.path → IsShort self.new.path }
+    {
+        match self.via.take() {
+            None => self.take_element(alloc, word),
+            Some(via) => self.take_after_via(alloc, via, word),
         }
-        RectSpot::Open | RectSpot::Close { .. } => return Err(PathFault::Bad),
-    };
-    Ok(OpenPath {
-        path,
-        former,
-        spot: Spot::Rect(next),
-    })
-}
+    }
 
-fn with_rect(
-    mut path: NamedPath,
-    former: Option<Point>,
-    first: Point,
-    second: Point,
-) -> Result<OpenPath, PathFault>
-    ensures value { Gives result (Ok (due_in (with_element path (Element.Rect first.x first.y second.x second.y)) former Spot.Element)) }
-    ensures short { IsShort path → IfOk result (λ next. IsShort next.path) }
-{
-    path.elements.push(Element::Rect {
-        dx1: first.x,
-        dy1: first.y,
-        dx2: second.x,
-        dy2: second.y,
-    })?;
-    Ok(OpenPath {
-        path,
-        former,
-        spot: Spot::Element,
-    })
-}
+    // Takes the orientation of a via, or the first word of what stands behind it.
+    fn take_after_via(&mut self, alloc: Global, via: Name, word: &[u8]) -> Result<bool, AllocError>
+        ensures value { IfOk result (Takes (via_step via (orient_from word.now) self.old word.now) self.new) }
+        ensures short { IsShort self.old.path → IsShort self.new.path }
+    {
+        let orient = orient_of_word(word);
+        self.path.elements.push(Element::Via { via, orient })?;
+        match orient {
+            Some(_) => Ok(true),
+            None => self.take_element(alloc, word),
+        }
+    }
 
-#[tactic(auto, unfolding(crate::specs::PathReading::element_step))]
-fn with_element_word(
-    alloc: Global,
-    path: NamedPath,
-    former: Option<Point>,
-    word: &[u8],
-) -> Result<OpenPath, PathFault>
-    ensures value { Gives result (element_step path former word.now) }
-    ensures short { IsShort path → IfOk result (λ next. IsShort next.path) }
-{
-    let spot = if PathWord::Open.is(word) {
-        Spot::Point(PointSpot::X)
-    } else if PathWord::Rect.is(word) {
-        Spot::Rect(RectSpot::Open)
-    } else {
-        Spot::AfterVia(via_of(alloc, word)?)
-    };
-    Ok(OpenPath { path, former, spot })
-}
-
-// A word after a via: its orientation, or what may stand after it.
-fn with_word_after_via(
-    alloc: Global,
-    via: Name,
-    mut path: NamedPath,
-    former: Option<Point>,
-    word: &[u8],
-) -> Result<OpenPath, PathFault>
-    ensures value { Gives result (after_via via path former word.now (orient_from word.now)) }
-    ensures short { IsShort path → IfOk result (λ next. IsShort next.path) }
-{
-    let orient = orient_of_word(word);
-    path.elements.push(Element::Via { via, orient })?;
-    match orient {
-        Some(_) => Ok(OpenPath {
-            path,
-            former,
-            spot: Spot::Element,
-        }),
-        None => with_element_word(alloc, path, former, word),
+    // Takes the first word of an element.
+    #[tactic(auto, unfolding(crate::specs::PathReading::element_step))]
+    fn take_element(&mut self, alloc: Global, word: &[u8]) -> Result<bool, AllocError>
+        ensures value { IfOk result (Takes (element_step self.old word.now) self.new) }
+        ensures short { IsShort self.old.path → IsShort self.new.path }
+    {
+        if PathWord::Open.is(word) {
+            self.spot = Spot::Point(PointSpot::X);
+            return Ok(true);
+        }
+        if PathWord::Rect.is(word) {
+            self.spot = Spot::Rect(RectSpot::Open);
+            return Ok(true);
+        }
+        match via_of(alloc, word)? {
+            Some(via) => {
+                drop(mem::replace(&mut self.via, Some(via)));
+                Ok(true)
+            }
+            None => Ok(false),
+        }
     }
 }

@@ -3,8 +3,8 @@ use std::alloc::Global;
 use std::process::Abort;
 use std::test::Fail;
 use wires::{
-    Element, Item, Items, NamedPaths, Path, PathFault, Taper, WireFault, decode, encode, lawful,
-    parse,
+    Element, Item, Items, NamedPaths, Path, PathFault, PathFlaw, PathReader, PathStop, Taper,
+    WireFault, decode, encode, lawful, parse,
 };
 
 fn put_word(out: &mut Vec<u8>, word: &[u8]) -> Result<(), Fail> {
@@ -196,6 +196,175 @@ const BAD_WORDS: [(&[u8], bool, &[u8]); 43] = [
 fn words_that_are_no_paths(rt: HostRuntime) {
     for (words, special, unsupported) in BAD_WORDS.iter() {
         expect_fault(&rt, rt.alloc(), *words, *special, *unsupported);
+    }
+}
+
+/// Words of a special wire or a plain one, and what is wrong with the last of them.
+const FLAWS: [(&[&[u8]], bool, PathFlaw); 31] = [
+    (&[b"MASK"], false, PathFlaw::Unsupported),
+    (&[b"m", b"DO"], false, PathFlaw::Unsupported),
+    (&[b"m", b"1", b"+", b"STYLE"], true, PathFlaw::Unsupported),
+    (&[b"m", b"(", b"VIRTUAL"], false, PathFlaw::Unsupported),
+    (&[b"("], false, PathFlaw::BadName),
+    (&[b"NEW"], false, PathFlaw::BadName),
+    (&[b"m", b"x"], false, PathFlaw::Unexpected),
+    (&[b"m", b"NEW"], false, PathFlaw::Unexpected),
+    (&[b"m", b"x"], true, PathFlaw::BadNumber),
+    (&[b"m", b"-1"], true, PathFlaw::BadNumber),
+    (&[b"m", b"1", b")"], true, PathFlaw::Unexpected),
+    (&[b"m", b"1", b"+", b"TAPER"], true, PathFlaw::Unexpected),
+    (&[b"m", b"1", b"+", b"SHAPE", b"("], true, PathFlaw::BadName),
+    (&[b"m", b"TAPERRULE", b"TAPER"], false, PathFlaw::BadName),
+    (&[b"m", b"TAPER", b"RECT"], false, PathFlaw::Unexpected),
+    (&[b"m", b"(", b"*"], false, PathFlaw::BadNumber),
+    (&[b"m", b"(", b"1", b")"], false, PathFlaw::BadNumber),
+    (&[b"m", b"(", b"NEW"], false, PathFlaw::BadNumber),
+    (&[b"m", b"(", b"1", b"2", b"-3"], false, PathFlaw::BadNumber),
+    (&[b"m", b"(", b"1", b"2", b"*"], false, PathFlaw::BadNumber),
+    (
+        &[b"m", b"(", b"1", b"2", b"3", b"4"],
+        false,
+        PathFlaw::Unexpected,
+    ),
+    (
+        &[b"m", b"(", b"1", b"2", b")", b")"],
+        false,
+        PathFlaw::BadName,
+    ),
+    (
+        &[b"m", b"(", b"1", b"2", b")", b"N"],
+        false,
+        PathFlaw::BadName,
+    ),
+    (
+        &[b"m", b"(", b"1", b"2", b")", b"v", b"TAPER"],
+        false,
+        PathFlaw::BadName,
+    ),
+    (
+        &[b"m", b"(", b"1", b"2", b")", b"v", b"N", b"S"],
+        false,
+        PathFlaw::BadName,
+    ),
+    (
+        &[b"m", b"(", b"1", b"2", b")", b"NEW", b"NEW"],
+        false,
+        PathFlaw::BadName,
+    ),
+    (
+        &[b"m", b"(", b"1", b"2", b")", b"NEW", b"m", b"(", b"*"],
+        false,
+        PathFlaw::BadNumber,
+    ),
+    (
+        &[b"m", b"(", b"1", b"2", b")", b"RECT", b"1"],
+        false,
+        PathFlaw::Unexpected,
+    ),
+    (
+        &[b"m", b"(", b"1", b"2", b")", b"RECT", b"(", b"*"],
+        false,
+        PathFlaw::BadNumber,
+    ),
+    (
+        &[
+            b"m", b"(", b"1", b"2", b")", b"RECT", b"(", b"1", b"2", b"3", b")",
+        ],
+        false,
+        PathFlaw::BadNumber,
+    ),
+    (
+        &[
+            b"m", b"(", b"1", b"2", b")", b"RECT", b"(", b"1", b"2", b"3", b"4", b"5",
+        ],
+        false,
+        PathFlaw::Unexpected,
+    ),
+];
+
+fn take_words(alloc: Global, reader: &mut PathReader, words: &[&[u8]]) -> Result<(), PathStop> {
+    for word in words.iter() {
+        reader.step(alloc, *word)?;
+    }
+    Ok(())
+}
+
+#[test]
+fn words_that_are_not_taken(rt: HostRuntime) -> Result<(), Fail> {
+    for (words, special, flaw) in FLAWS.iter() {
+        let mut reader = PathReader::new(rt.alloc(), *special);
+        let (last, front) = words.split_last().ok_or("there is a word")?;
+        assert_eq!(rt; take_words(rt.alloc(), &mut reader, front), Ok(()));
+        assert_eq!(rt; reader.step(rt.alloc(), *last), Err(PathStop::Flaw(*flaw)));
+        drop(reader);
+    }
+    Ok(())
+}
+
+/// Words that paths have in front, whether they may end, and what is wrong if they do.
+const ENDS: [(&[&[u8]], Option<PathFlaw>); 7] = [
+    (&[], Some(PathFlaw::BadName)),
+    (&[b"m"], Some(PathFlaw::Unexpected)),
+    (&[b"m", b"(", b"1"], Some(PathFlaw::BadNumber)),
+    (&[b"m", b"(", b"1", b"2", b")"], None),
+    (&[b"m", b"(", b"1", b"2", b")", b"v"], None),
+    (
+        &[b"m", b"(", b"1", b"2", b")", b"NEW"],
+        Some(PathFlaw::BadName),
+    ),
+    (
+        &[b"m", b"(", b"1", b"2", b")", b"RECT"],
+        Some(PathFlaw::Unexpected),
+    ),
+];
+
+#[test]
+fn where_paths_may_end(rt: HostRuntime) {
+    for (words, flaw) in ENDS.iter() {
+        let mut reader = PathReader::new(rt.alloc(), false);
+        assert_eq!(rt; take_words(rt.alloc(), &mut reader, *words), Ok(()));
+        assert_eq!(rt; reader.may_end(), flaw.is_none());
+        match reader.finish() {
+            Ok(paths) => {
+                drop(paths);
+                assert!(rt; flaw.is_none());
+            }
+            Err(stop) => assert_eq!(rt; flaw.map(|f| PathStop::Flaw(f)), Some(stop)),
+        }
+    }
+}
+
+/// Words behind 999,993 bytes of paths and a space, and whether there is room for them.
+const LAST_WORDS: [(&[&[u8]], Result<(), PathStop>); 9] = [
+    (&[b"vvvvvv"], Ok(())),
+    (&[b"vvvvvvv"], Err(PathStop::Flaw(PathFlaw::BadName))),
+    (&[b"(", b"1", b"0010"], Ok(())),
+    (
+        &[b"(", b"1", b"100"],
+        Err(PathStop::Flaw(PathFlaw::BadNumber)),
+    ),
+    (&[b"(", b"*"], Err(PathStop::Flaw(PathFlaw::BadNumber))),
+    (&[b"v", b"RECT"], Ok(())),
+    (
+        &[b"v", b"RECT", b"("],
+        Err(PathStop::Flaw(PathFlaw::Unexpected)),
+    ),
+    (&[b"NEW", b"mm"], Ok(())),
+    (&[b"NEW", b"mmm"], Err(PathStop::Flaw(PathFlaw::BadName))),
+];
+
+#[test]
+fn words_beyond_the_limit(rt: HostRuntime) {
+    for (words, told) in LAST_WORDS.iter() {
+        let mut reader = PathReader::new(rt.alloc(), false);
+        let first: [&[u8]; 5] = [b"m", b"(", b"-2000000000", b"-2000000000", b")"];
+        assert_eq!(rt; take_words(rt.alloc(), &mut reader, &first), Ok(()));
+        for _ in 0..35_713 {
+            let point: [&[u8]; 4] = [b"(", b"*", b"*", b")"];
+            assert_eq!(rt; take_words(rt.alloc(), &mut reader, &point), Ok(()));
+        }
+        assert_eq!(rt; take_words(rt.alloc(), &mut reader, *words), *told);
+        drop(reader);
     }
 }
 

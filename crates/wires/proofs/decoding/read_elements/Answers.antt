@@ -6,15 +6,15 @@ use Rattle.wires.specs.Paths.{with_pieces}
 use Rattle.wires.specs.Pieces.{piece_of}
 use Rattle.wires.specs.Reading.{is_start, items_left}
 use Rattle.wires.proofs.PathPieces.{has_place_from, tapered_from, with_more}
-use Rattle.wires.proofs.decoding.decode_within.Goals as goal
+use Rattle.wires.proofs.decoding.read_elements.Goals as goal
 
-pub with-requires-clause-place : goal.with-requires-clause-place
-with-requires-clause-place c =
+pub put-requires-clause-place : goal.put-requires-clause-place
+put-requires-clause-place c =
     let given = rw c.in-Some.is at c.in_ok-item.ensures.value in
     has_place_from _ c.elements.elements.due (is_some c.elements.paths.last) (piece_of c.in-Some.item) given.1 c.elements.invariant.last
 
-pub with-requires-clause-taper : goal.with-requires-clause-taper
-with-requires-clause-taper c =
+pub put-requires-clause-taper : goal.put-requires-clause-taper
+put-requires-clause-taper c =
     let given = rw c.in-Some.is at c.in_ok-item.ensures.value in
     tapered_from _ (piece_of c.in-Some.item) given.1.fits
 
@@ -30,6 +30,6 @@ elements-preserved c =
           c.elements.invariant.read
           ∙ ap (with_pieces front) given.0
           ∙ with_more front piece rest
-          ∙ ap (λ f. with_pieces f rest) (sym c.in_ok-paths.ensures.gathered);
-      last = or_right (is_start c.next.new.self.due) (is_some c.in_ok-paths.paths.last) c.in_ok-paths.ensures.last;
+          ∙ ap (λ f. with_pieces f rest) (sym c.in_ok-put.ensures.gathered);
+      last = or_right (is_start c.next.new.self.due) (is_some c.put.new.self.last) c.in_ok-put.ensures.last;
     }

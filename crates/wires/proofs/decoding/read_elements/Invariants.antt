@@ -3,7 +3,7 @@ use Rattle.std.specs.Prelude.{is_some}
 use Rattle.wires.specs.Gathered.{gathered}
 use Rattle.wires.specs.Paths.{with_pieces}
 use Rattle.wires.specs.Reading.{is_start, items_left, items_of}
-use Rattle.wires.proofs.decoding.decode_within.Given as goal
+use Rattle.wires.proofs.decoding.read_elements.Given as goal
 
 abbrev pub invariant-elements : goal.invariant-elements
 invariant-elements l = record {
