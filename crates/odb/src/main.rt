@@ -3,14 +3,11 @@
 #![tactic(auto)]
 
 mod folder_shelf;
-mod standard_input;
-mod standard_output;
 
 use folder_shelf::FolderShelf;
 use odb_base::Text;
 use odb_run::{Status, odb_main};
-use standard_input::StandardInput;
-use standard_output::StandardOutput;
+use standard_streams::{StandardInput, StandardOutput};
 use std::io::ErrorKind;
 use std::process::ExitCode;
 use std::rt::{Env, Files};

@@ -4,7 +4,7 @@ ghost use Rattle.std.proofs.Common.{arith};
 use odb_outside::{Sink, WriteFault};
 use std::io::Write;
 
-/// A real stream as the sink of replies. It tells no bytes and is always ready.
+/// A real stream as a sink. It tells no bytes and is always ready.
 #[derive(Drop)]
 pub struct StandardOutput<W: Write> {
     writer: W,

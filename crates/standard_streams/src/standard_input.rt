@@ -4,7 +4,7 @@ ghost use Rattle.std.proofs.Common.{arith};
 use odb_outside::{Failed, Source};
 use std::io::Read;
 
-/// A real stream as the source of a script. It tells no bytes and is always ready.
+/// A real stream as a source. It tells no bytes and is always ready.
 #[derive(Drop)]
 pub struct StandardInput<R: Read> {
     reader: R,
