@@ -1,0 +1,14 @@
+pub mod Blockages
+pub mod Components
+pub mod DefinitionDrafts
+pub mod Elements
+pub mod Groups
+pub mod KeptWords
+pub mod Nets
+pub mod Options
+pub mod Pins
+pub mod Regions
+pub mod Rows
+pub mod Tracks
+pub mod Values
+pub mod Vias

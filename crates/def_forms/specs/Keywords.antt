@@ -1,0 +1,68 @@
+-- The words that stand for themselves in DEF.
+use Rattle.std.specs.Prelude.{Bool, List, ℕ, codes}
+use Rattle.std.specs.Str.{bytes_eq}
+use Rattle.def_forms.specs.declared.keyword.Keyword.{Keyword}
+use Rattle.def_forms.specs.declared.keyword.Keyword.TheVariants as keyword
+
+-- the text of a keyword
+abbrev pub text_of : Keyword → List ℕ
+text_of keyword.Version = codes "VERSION"
+text_of keyword.DividerChar = codes "DIVIDERCHAR"
+text_of keyword.BusBitChars = codes "BUSBITCHARS"
+text_of keyword.Design = codes "DESIGN"
+text_of keyword.Units = codes "UNITS"
+text_of keyword.Distance = codes "DISTANCE"
+text_of keyword.Microns = codes "MICRONS"
+text_of keyword.DieArea = codes "DIEAREA"
+text_of keyword.PropertyDefinitions = codes "PROPERTYDEFINITIONS"
+text_of keyword.Row = codes "ROW"
+text_of keyword.Do = codes "DO"
+text_of keyword.By = codes "BY"
+text_of keyword.Step = codes "STEP"
+text_of keyword.Tracks = codes "TRACKS"
+text_of keyword.Vias = codes "VIAS"
+text_of keyword.Regions = codes "REGIONS"
+text_of keyword.Components = codes "COMPONENTS"
+text_of keyword.Pins = codes "PINS"
+text_of keyword.Blockages = codes "BLOCKAGES"
+text_of keyword.SpecialNets = codes "SPECIALNETS"
+text_of keyword.Nets = codes "NETS"
+text_of keyword.Groups = codes "GROUPS"
+text_of keyword.End = codes "END"
+text_of keyword.Styles = codes "STYLES"
+text_of keyword.NonDefaultRules = codes "NONDEFAULTRULES"
+text_of keyword.Slots = codes "SLOTS"
+text_of keyword.Fills = codes "FILLS"
+text_of keyword.ScanChains = codes "SCANCHAINS"
+text_of keyword.PinProperties = codes "PINPROPERTIES"
+text_of keyword.BeginExt = codes "BEGINEXT"
+text_of keyword.EndExt = codes "ENDEXT"
+text_of keyword.Property = codes "PROPERTY"
+text_of keyword.Type = codes "TYPE"
+text_of keyword.Placed = codes "PLACED"
+text_of keyword.Fixed = codes "FIXED"
+text_of keyword.Cover = codes "COVER"
+text_of keyword.Unplaced = codes "UNPLACED"
+text_of keyword.Region = codes "REGION"
+text_of keyword.Net = codes "NET"
+text_of keyword.Direction = codes "DIRECTION"
+text_of keyword.Use = codes "USE"
+text_of keyword.Port = codes "PORT"
+text_of keyword.Layer = codes "LAYER"
+text_of keyword.Placement = codes "PLACEMENT"
+text_of keyword.Rect = codes "RECT"
+text_of keyword.Polygon = codes "POLYGON"
+text_of keyword.Routed = codes "ROUTED"
+text_of keyword.Subnet = codes "SUBNET"
+text_of keyword.Pin = codes "PIN"
+text_of keyword.MustJoin = codes "MUSTJOIN"
+text_of keyword.Synthesized = codes "SYNTHESIZED"
+text_of keyword.Plus = codes "+"
+text_of keyword.Dash = codes "-"
+text_of keyword.Open = codes "("
+text_of keyword.Close = codes ")"
+text_of keyword.Star = codes "*"
+
+-- the word is the keyword
+unfoldable pub is : Keyword → List ℕ → Bool
+is keyword word = bytes_eq word (text_of keyword)
