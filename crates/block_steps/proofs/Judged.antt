@@ -1,9 +1,7 @@
 -- What is judged of a step, read off the block.
 use Rattle.std.proofs.Common.{◌≡◌, ◌≤◌, ◌<◌, ◌+◌, ◌-◌, true, false, List, ℕ, Option, Some, None, IsTrue, IsSome, Bool, not, is_some, length, slice_get, refl, sym, ap, ◌∙◌, subst, arith, inl, inr}
 use Rattle.std.proofs.lemmas.Bool.{cases_lt}
-use Rattle.std.proofs.lemmas.List.{get_or_past}
 use Rattle.std.proofs.lemmas.Option.{slice_get_within}
-use Rattle.slot_pool.specs.Table.{Table, next_id}
 use Rattle.odb_base.specs.Name.{IsName}
 use Rattle.odb_base.specs.declared.codes.kind.Kind.{Kind}
 use Rattle.library.specs.Masters.{master_at}
@@ -36,10 +34,6 @@ module _ (k : Kind) (b : Block) (id : ℕ) (name : List ℕ) (found : Option ℕ
 
   pub renameable : HasNames k → IsTrue (live_in k id b) → (none ≡ true → CanRename b k id name) × (CanRename b k id name → none ≡ true)
   renameable has live = (λ so. record { kind = has; live = live; lawful = lawful; free = free_if so }, λ can. none_if can.free)
-
--- a place past the free identifiers has an identifier past it
-pub next_far : {A : Type 0} (t : Table A) (k : ℕ) → length t.free ≤ length t.slots → length t.free ≤ k → k < next_id t k
-next_far t k fits past = rw (get_or_past t.free k (length t.slots + (k + 1 - length t.free)) past) (omega arith)
 
 some_by : {A : Type 0} (o : Option A) → (o ≡ None → ⊥) → IsSome o
 some_by None h = absurd (h refl)

@@ -1,4 +1,5 @@
 pub mod Asked
+pub mod Following
 pub mod Judged
 pub mod Owed
 pub mod Rooms

@@ -1,11 +1,11 @@
 ghost use Rattle.std.specs.Prelude.{◌≡◌, ◌↔◌, ℕ, IsErr, IsOk, IsSome, IsTrue, List, Some, false, length};
 ghost use Rattle.slot_pool.specs.Table.{is_live, next_id};
+ghost use Rattle.odb_base.specs.Direction.{is_bterm_direction};
 ghost use Rattle.odb_base.specs.declared.codes.kind.Kind.TheVariants as kind;
 ghost use Rattle.library.specs.Terminals.{term_index};
 ghost use Rattle.block_store.specs.Block.{live_in};
 ghost use Rattle.block_store.specs.Fields.{net_in, special_in};
 ghost use Rattle.block_store.specs.Names.{HasNames};
-ghost use Rattle.block_store.specs.BlockTerminals.{IsBTermDirection};
 ghost use Rattle.block_store.specs.Instances.{term_count};
 ghost use Rattle.block_store.specs.Rows.{IsRowRec};
 ghost use Rattle.block_store.specs.Sound.{IsSound, iterm_net};
@@ -15,7 +15,7 @@ use crate::masters::master_of;
 use block_records::RowRec;
 use block_store::block::Block;
 use block_store::list_of::ListOf;
-use block_store::{is_bterm_direction, is_placement, is_row};
+use block_store::values::{is_placement, is_row};
 use edit_words::Step;
 use library::{Library, Master};
 use odb_base::{BTermId, Direction, ITermId, InstId, Kind, MasterId, Name, NetId, Placement};
@@ -105,12 +105,13 @@ fn has_terms(library: &Library, master: u32, count: usize) -> bool
 fn are_next(block: &Block, terminals: &[u32]) -> bool
     ensures { IsTrue result ↔ AreNext terminals.now block.now.block.iterm }
 {
-    for (place, id) in terminals.iter().enumerate() {
-        if !is_next(block, place, *id) {
-            return false;
-        }
+    let mut next = block.next_ids(Kind::ITerm);
+    let mut are_next = true;
+    for id in terminals {
+        are_next = are_next && next.next() == Some(*id);
     }
-    true
+    drop(next);
+    are_next
 }
 
 fn can_del(block: &Block, kind: Kind, id: u32) -> bool
@@ -185,9 +186,9 @@ fn can_set_use(block: &Block, kind: Kind, id: u32) -> bool
 }
 
 fn can_set_direction(block: &Block, bterm: u32, direction: Direction) -> bool
-    ensures { IsTrue result ↔ IsTrue (is_live block.now.block.bterm bterm) × IsBTermDirection direction }
+    ensures { IsTrue result ↔ IsTrue (is_live block.now.block.bterm bterm) × IsTrue (is_bterm_direction direction) }
 {
-    block.live(Kind::BTerm, bterm) && is_bterm_direction(direction)
+    block.live(Kind::BTerm, bterm) && direction.fits_bterm()
 }
 
 fn can_make_special(block: &Block, net: u32) -> bool
@@ -209,20 +210,6 @@ fn can_part(block: &Block, kind: Kind, id: u32, net: u32) -> bool
     ensures { IsTrue result ↔ CanPart block.now.block kind id net }
 {
     net != 0 && net_of(block, kind, id) == Some(net)
-}
-
-fn is_next(block: &Block, place: usize, id: u32) -> bool
-    ensures { IsTrue result ↔ (id ≡ next_id block.now.block.iterm place) }
-{
-    match u32::try_from(place) {
-        Ok(place) => u64::from(id) == block.next_id(Kind::ITerm, place),
-        Err(_) => {
-            // There are no more free identifiers than slots, and so the next one is past the place.
-            let (live, slots) = (block.live_count(Kind::ITerm), block.slots(Kind::ITerm));
-            prove!(live <= slots);
-            false
-        }
-    }
 }
 
 fn can_swap(block: &Block, library: &Library, inst: u32, master: u32) -> bool

@@ -33,15 +33,15 @@ module _ {A : Type 0} where
   HasNewName None x t = Unit {0}
   HasNewName (Some name) x t = (id : ℕ) → name_by name.get id t ≢ Some (name.get x)
 
-  names_on : (name : Option (Lens A (List ℕ))) (change : A → A) (id : ℕ) (t : Table A) → KeepsName name change → HasDistinctNames name t → HasDistinctNames name (on_record change id t)
+  pub names_on : (name : Option (Lens A (List ℕ))) (change : A → A) (id : ℕ) (t : Table A) → KeepsName name change → HasDistinctNames name t → HasDistinctNames name (on_record change id t)
   names_on None change id t keeps named = tt
   names_on (Some name) change id t keeps named = named_stands name.get t (on_record change id t) (view_on (option_map name.get) change id t (λ x found. ap Some (keeps x))) named
 
-  names_taken : (name : Option (Lens A (List ℕ))) (x : A) (t : Table A) → IsGood t → HasNewName name x t → HasDistinctNames name t → HasDistinctNames name (taken x t)
+  pub names_taken : (name : Option (Lens A (List ℕ))) (x : A) (t : Table A) → IsGood t → HasNewName name x t → HasDistinctNames name t → HasDistinctNames name (taken x t)
   names_taken None x t good new named = tt
   names_taken (Some name) x t good new named = named_taken name.get x t good new named
 
-  names_given : (name : Option (Lens A (List ℕ))) (id : ℕ) (t : Table A) → IsTrue (is_live t id) → HasDistinctNames name t → HasDistinctNames name (given id t)
+  pub names_given : (name : Option (Lens A (List ℕ))) (id : ℕ) (t : Table A) → IsTrue (is_live t id) → HasDistinctNames name t → HasDistinctNames name (given id t)
   names_given None id t live named = tt
   names_given (Some name) id t live named = named_given name.get id t live named
 
@@ -64,14 +64,10 @@ module _ {A : Type 0} where
   on_empty : (change : A → A) (id : ℕ) (t : Table A) → t ≡ empty_table → on_record change id t ≡ empty_table
   on_empty change id t empty = subst (λ u. on_record change id u ≡ empty_table) (sym empty) (on_missing change id empty_table (none_in_empty id))
 
--- no record of a kind that is still to come is lawful
+-- no record of a kind that is still to come is lawful; spelled out at one kind, so that it computes at each
 not_yet : (k : Kind) (parts : Parts) (x : Entry k) → (laws k).built ≡ false → (laws k).Is parts x → ⊥
-not_yet kind.Inst parts x unbuilt is = false≢true (sym unbuilt)
-not_yet kind.ITerm parts x unbuilt is = false≢true (sym unbuilt)
-not_yet kind.Net parts x unbuilt is = false≢true (sym unbuilt)
-not_yet kind.BTerm parts x unbuilt is = false≢true (sym unbuilt)
-not_yet kind.Row parts x unbuilt is = false≢true (sym unbuilt)
-not_yet k parts x unbuilt is = is
+not_yet kind.Inst parts x unbuilt is = cc
+not_yet k parts x unbuilt is = first_of (cc, assumption)
 
 module _ (parts : Parts) (cap : ℕ) where
   -- an empty table

@@ -68,7 +68,7 @@ sound_empty tech library cap lawful = record {
 }
 
 -- an empty library has no master
-no_master : (id : ℕ) (m : Master) → master_at [] id ≡ Some m → ⊥
+pub no_master : (id : ℕ) (m : Master) → master_at [] id ≡ Some m → ⊥
 no_master id m found = let at = (placed [] id m found).at in cc
 
 -- the masters of a lawful library are lawful

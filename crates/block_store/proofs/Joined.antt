@@ -53,7 +53,7 @@ number_is number = elim (cases_eq (number % 2) 0) [
 
 module _ {A L : Type 0} (see : A → L) (none : L) where
   -- a part of what an object shows is what its record says
-  list_seen_by : (part : L → List ℕ) (o : Option A) → part none ≡ [] → part (option_map_or see o none) ≡ list_in (λ x. part (see x)) o
+  pub list_seen_by : (part : L → List ℕ) (o : Option A) → part none ≡ [] → part (option_map_or see o none) ≡ list_in (λ x. part (see x)) o
   list_seen_by part None h = h
   list_seen_by part (Some x) h = refl
 

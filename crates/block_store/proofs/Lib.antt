@@ -1,8 +1,13 @@
 pub mod Changed
+pub mod Consistency
+pub mod ConsistentLists
+pub mod ConsistentMoves
+pub mod ConsistentWhereSound
 pub mod Databases
 pub mod Held
 pub mod Joined
 pub mod Limits
+pub mod ListChanges
 pub mod Memberships
 pub mod MovedMembers
 pub mod Naming
@@ -12,4 +17,5 @@ pub mod SetFields
 pub mod Shown
 pub mod Slots
 pub mod TableLemmas
+pub mod Upcoming
 pub mod Upward

@@ -1,8 +1,9 @@
 -- Fields that are set by themselves: no other object sees them. The block stays sound, and setting back what stood
 -- leads to it. A further such field is a constructor, its line in `field` and one in `lawful_with`.
-use Rattle.std.proofs.Common.{◌≡◌, Bool, ℕ, Option, refl, ap, ◌∙◌}
+use Rattle.std.proofs.Common.{IsTrue, ◌≡◌, Bool, ℕ, Option, refl, ap, ◌∙◌}
 use Rattle.std.specs.Option.{option_map, unwrap_or}
 use Rattle.slot_pool.specs.Table.{record_at}
+use Rattle.odb_base.specs.Direction.{is_bterm_direction}
 use Rattle.odb_base.specs.declared.codes.direction.Direction.{Direction}
 use Rattle.odb_base.specs.declared.codes.kind.Kind.{Kind}
 use Rattle.odb_base.specs.declared.codes.kind.Kind.TheVariants as kind
@@ -12,7 +13,6 @@ use Rattle.tech.specs.Technology.{Technology}
 use Rattle.library.specs.declared.master.Master.{Master}
 use Rattle.std.proofs.Common.{List}
 use Rattle.block_store.specs.Block.{Block}
-use Rattle.block_store.specs.BlockTerminals.{IsBTermDirection}
 use Rattle.block_store.specs.KindLaws.{Parts}
 use Rattle.block_store.specs.Kinds.{Entry, on_entry, table_of}
 use Rattle.block_store.specs.Lens.{Lens}
@@ -44,7 +44,7 @@ field PinPlace = record { kind = kind.Pin; Value = Placement; part = record { ge
 field NetUsage = record { kind = kind.Net; Value = Usage; part = record { get = λ e. e.fields.usage; set = λ v e. record e { fields = record e.fields { usage = v } }; set_get = λ v e. refl; get_set = λ e. refl; set_set = λ v w e. refl }; Is = λ v. Unit {0} }
 field NetSpecial = record { kind = kind.Net; Value = Bool; part = record { get = λ e. e.fields.special; set = λ v e. record e { fields = record e.fields { special = v } }; set_get = λ v e. refl; get_set = λ e. refl; set_set = λ v w e. refl }; Is = λ v. Unit {0} }
 field BTermUsage = record { kind = kind.BTerm; Value = Usage; part = record { get = λ e. e.fields.usage; set = λ v e. record e { fields = record e.fields { usage = v } }; set_get = λ v e. refl; get_set = λ e. refl; set_set = λ v w e. refl }; Is = λ v. Unit {0} }
-field BTermDirection = record { kind = kind.BTerm; Value = Direction; part = record { get = λ e. e.fields.direction; set = λ v e. record e { fields = record e.fields { direction = v } }; set_get = λ v e. refl; get_set = λ e. refl; set_set = λ v w e. refl }; Is = IsBTermDirection }
+field BTermDirection = record { kind = kind.BTerm; Value = Direction; part = record { get = λ e. e.fields.direction; set = λ v e. record e { fields = record e.fields { direction = v } }; set_get = λ v e. refl; get_set = λ e. refl; set_set = λ v w e. refl }; Is = λ d. IsTrue (is_bterm_direction d) }
 
 abbrev pub with_field : (f : Field) → (field f).Value → ℕ → Block → Block
 with_field f v id b = on_entry (field f).kind ((field f).part.set v) id b

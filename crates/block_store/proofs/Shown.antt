@@ -113,19 +113,19 @@ module _ {A : Type 0} (name_of : A → List ℕ) where
   pub named_stands : (t t' : Table A) → ((id : ℕ) → name_by name_of id t' ≡ name_by name_of id t) → AreNamed name_of t → AreNamed name_of t'
   named_stands t t' same named = λ a b name at_a at_b. named a b name (sym (same a) ∙ at_a) (sym (same b) ∙ at_b)
 
-  -- one identifier has a name that none had
-  pub named_newly : (t t' : Table A) (id : ℕ) (new : List ℕ) → ((other : ℕ) → other ≢ id → name_by name_of other t' ≡ name_by name_of other t) → name_by name_of id t' ≡ Some new → ((other : ℕ) → name_by name_of other t ≢ Some new) → AreNamed name_of t → AreNamed name_of t'
+  -- one identifier has a name that no other had
+  pub named_newly : (t t' : Table A) (id : ℕ) (new : List ℕ) → ((other : ℕ) → other ≢ id → name_by name_of other t' ≡ name_by name_of other t) → name_by name_of id t' ≡ Some new → ((other : ℕ) → name_by name_of other t ≡ Some new → other ≡ id) → AreNamed name_of t → AreNamed name_of t'
   named_newly t t' id new others here free named = λ a b name at_a at_b. elim (cases_eq a id) [
     | inl a_is ↦ elim (cases_eq b id) [
       | inl b_is ↦ a_is ∙ sym b_is
       | inr b_other ↦
           let same : Some name ≡ Some new = sym at_a ∙ ap (λ k. name_by name_of k t') a_is ∙ here in
-          absurd (free b (sym (others b b_other) ∙ at_b ∙ same))
+          a_is ∙ sym (free b (sym (others b b_other) ∙ at_b ∙ same))
     ]
     | inr a_other ↦ elim (cases_eq b id) [
       | inl b_is ↦
           let same : Some name ≡ Some new = sym at_b ∙ ap (λ k. name_by name_of k t') b_is ∙ here in
-          absurd (free a (sym (others a a_other) ∙ at_a ∙ same))
+          free a (sym (others a a_other) ∙ at_a ∙ same) ∙ sym b_is
       | inr b_other ↦ named a b name (sym (others a a_other) ∙ at_a) (sym (others b b_other) ∙ at_b)
     ]
   ]
@@ -134,13 +134,17 @@ module _ {A : Type 0} (name_of : A → List ℕ) where
   pub named_taken : (x : A) (t : Table A) → IsGood t → ((other : ℕ) → name_by name_of other t ≢ Some (name_of x)) → AreNamed name_of t → AreNamed name_of (taken x t)
   named_taken x t good free named =
       named_newly t (taken x t) (next_id t 0) (name_of x)
-      (λ other apart. ap (option_map name_of) (at_taken_other x t other good apart)) (ap (option_map name_of) (at_taken x t good)) free named
+      (λ other apart. ap (option_map name_of) (at_taken_other x t other good apart)) (ap (option_map name_of) (at_taken x t good)) (λ other at. absurd (free other at)) named
+
+  -- an object gets a name that no other has
+  pub named_again : (change : A → A) (id : ℕ) (x : A) (t : Table A) → record_at t id ≡ Some x → ((other : ℕ) → name_by name_of other t ≡ Some (name_of (change x)) → other ≡ id) → AreNamed name_of t → AreNamed name_of (on_record change id t)
+  named_again change id x t found free named =
+      named_newly t (on_record change id t) id (name_of (change x))
+      (view_other_on (option_map name_of) change id t) (view_at_on (option_map name_of) change id x t found) free named
 
   -- an object gets a name that none had
   pub named_on : (change : A → A) (id : ℕ) (x : A) (t : Table A) → record_at t id ≡ Some x → ((other : ℕ) → name_by name_of other t ≢ Some (name_of (change x))) → AreNamed name_of t → AreNamed name_of (on_record change id t)
-  named_on change id x t found free named =
-      named_newly t (on_record change id t) id (name_of (change x))
-      (view_other_on (option_map name_of) change id t) (view_at_on (option_map name_of) change id x t found) free named
+  named_on change id x t found free named = named_again change id x t found (λ other at. absurd (free other at)) named
 
   -- who has a name after one went had it before
   named_before : (id : ℕ) (t : Table A) → IsTrue (is_live t id) → (a : ℕ) (name : List ℕ) → name_by name_of a (given id t) ≡ Some name → name_by name_of a t ≡ Some name

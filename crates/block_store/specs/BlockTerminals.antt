@@ -1,22 +1,16 @@
 -- What a terminal of the block states of itself.
 use Rattle.std.proofs.Common.{refl}
-use Rattle.std.specs.Prelude.{◌≡◌, true, List, [], ℕ, Some}
+use Rattle.std.specs.Prelude.{◌≡◌, IsTrue, true, List, [], ℕ, Some}
+use Rattle.odb_base.specs.Direction.{is_bterm_direction}
 use Rattle.odb_base.specs.Name.{IsName}
-use Rattle.odb_base.specs.declared.codes.direction.Direction.{Direction}
-use Rattle.odb_base.specs.declared.codes.direction.Direction.TheVariants as direction
 use Rattle.block_store.specs.declared.entry.BTermEntry.{BTermEntry}
 use Rattle.block_store.specs.KindLaws.{KindLaws}
 use Rattle.block_store.specs.Lens.{Lens}
 
--- the direction may stand at a block terminal
-abbrev pub IsBTermDirection : Direction → Type 0
-IsBTermDirection direction.Tristate = ⊥
-IsBTermDirection other = Unit {0}
-
 -- a block terminal has a lawful name and direction
 pub record IsBTerm (e : BTermEntry) : Type 0 where
   pub name : IsName e.fields.name
-  pub direction : IsBTermDirection e.fields.direction
+  pub direction : IsTrue (is_bterm_direction e.fields.direction)
   pub kept : e.fields.kept ≡ []
   pub pins : e.pins ≡ []
 

@@ -3,6 +3,7 @@ pub mod Block
 pub mod BlockTerminals
 pub mod Changes
 pub mod Coming
+pub mod Consistent
 pub mod Database
 pub mod Fields
 pub mod FreeIds
@@ -26,4 +27,5 @@ pub mod Sound
 pub mod Store
 pub mod Tables
 pub mod TermPlaces
+pub mod Upcoming
 pub mod View

@@ -1,6 +1,6 @@
 -- The laws of each kind, and what the objects of a block show of what ties them to each other.
 use Rattle.std.proofs.Common.{refl}
-use Rattle.std.specs.Prelude.{List, ℕ, Option, None, Some}
+use Rattle.std.specs.Prelude.{Bool, true, List, ℕ, Option, None, Some}
 use Rattle.std.specs.Option.{option_map_or}
 use Rattle.slot_pool.specs.Table.{record_at}
 use Rattle.odb_base.specs.declared.codes.kind.Kind.{Kind}
@@ -50,6 +50,11 @@ laws kind.Blockage = coming_laws None
 laws kind.Region = coming_laws (Some region_name)
 laws kind.Group = coming_laws (Some group_name)
 laws kind.Prop = coming_laws None
+
+-- objects of the kind can be made, and so be saved; spelled out at one kind, so that it computes at each
+abbrev pub is_built : Kind → Bool
+is_built kind.Inst = true
+is_built k = (laws k).built
 
 -- what each identifier of each kind shows
 abbrev pub View : Type 0

@@ -8,7 +8,6 @@ ghost use Rattle.block_store.specs.Names.{HasNames, IsFreeBut, name_in};
 use crate::block::Block;
 use block_records::Terminals;
 use odb_base::{Direction, Kind, Name, Placement, Steps, Usage};
-use std::mem;
 use std::sync::ledger::Ledger;
 
 // Each of these sets one field of an object, and answers what it had.
@@ -22,11 +21,7 @@ impl Block {
         ensures cap { self.new.cap ≡ self.old.cap }
         ensures room { self.new.room ≡ self.old.room }
     {
-        match kind {
-            Kind::ITerm => mem::replace(&mut self.iterm.change(id, moves).net, net),
-            Kind::BTerm => mem::replace(&mut self.bterm.change(id, moves).fields.net, net),
-            _ => unreachable!(),
-        }
+        self.pools.set_net(kind, id, net, moves)
     }
 
     /// The placement of an instance or a pin.
@@ -44,11 +39,7 @@ impl Block {
         ensures cap { self.new.cap ≡ self.old.cap }
         ensures room { self.new.room ≡ self.old.room }
     {
-        match kind {
-            Kind::Inst => mem::replace(&mut self.inst.change(id, moves).fields.place, place),
-            Kind::Pin => mem::replace(&mut self.pin.change(id, moves).place, place),
-            _ => unreachable!(),
-        }
+        self.pools.set_place(kind, id, place, moves)
     }
 
     /// The use of a net or a block terminal.
@@ -66,11 +57,7 @@ impl Block {
         ensures cap { self.new.cap ≡ self.old.cap }
         ensures room { self.new.room ≡ self.old.room }
     {
-        match kind {
-            Kind::Net => mem::replace(&mut self.net.change(id, moves).fields.usage, usage),
-            Kind::BTerm => mem::replace(&mut self.bterm.change(id, moves).fields.usage, usage),
-            _ => unreachable!(),
-        }
+        self.pools.set_usage(kind, id, usage, moves)
     }
 
     /// The direction of a block terminal.
@@ -86,10 +73,7 @@ impl Block {
         ensures cap { self.new.cap ≡ self.old.cap }
         ensures room { self.new.room ≡ self.old.room }
     {
-        mem::replace(
-            &mut self.bterm.change(id, moves).fields.direction,
-            direction,
-        )
+        self.pools.set_direction(id, direction, moves)
     }
 
     /// Whether a net is special.
@@ -100,7 +84,7 @@ impl Block {
         ensures cap { self.new.cap ≡ self.old.cap }
         ensures room { self.new.room ≡ self.old.room }
     {
-        mem::replace(&mut self.net.change(id, moves).fields.special, special)
+        self.pools.set_special(id, special, moves)
     }
 
     /// The number of the master of an instance.
@@ -111,7 +95,7 @@ impl Block {
         ensures cap { self.new.cap ≡ self.old.cap }
         ensures room { self.new.room ≡ self.old.room }
     {
-        mem::replace(&mut self.inst.change(id, moves).fields.master, master)
+        self.pools.set_master(id, master, moves)
     }
 
     /// The terminals of an instance.
@@ -127,7 +111,7 @@ impl Block {
         ensures cap { self.new.cap ≡ self.old.cap }
         ensures room { self.new.room ≡ self.old.room }
     {
-        mem::replace(&mut self.inst.change(id, moves).fields.terminals, terminals)
+        self.pools.set_terminals(id, terminals, moves)
     }
 
     /// The place of an instance terminal among those of its instance.
@@ -138,7 +122,7 @@ impl Block {
         ensures cap { self.new.cap ≡ self.old.cap }
         ensures room { self.new.room ≡ self.old.room }
     {
-        mem::replace(&mut self.iterm.change(id, moves).index, index)
+        self.pools.set_index(id, index, moves)
     }
 
     /// The name of an object.
@@ -157,14 +141,6 @@ impl Block {
         ensures cap { self.new.cap ≡ self.old.cap }
         ensures room { self.new.room ≡ self.old.room }
     {
-        match kind {
-            Kind::Inst => mem::replace(&mut self.inst.change(id, moves).fields.name, name),
-            Kind::Net => mem::replace(&mut self.net.change(id, moves).fields.name, name),
-            Kind::BTerm => mem::replace(&mut self.bterm.change(id, moves).fields.name, name),
-            Kind::Row => mem::replace(&mut self.row.change(id, moves).fields.name, name),
-            Kind::Region => mem::replace(&mut self.region.change(id, moves).fields.name, name),
-            Kind::Group => mem::replace(&mut self.group.change(id, moves).fields.name, name),
-            _ => unreachable!(),
-        }
+        self.pools.rename(kind, id, name, moves)
     }
 }

@@ -73,18 +73,18 @@ impl Block {
         ensures { result ≡ free_in kind self.now.block }
     {
         let left = match kind {
-            Kind::Inst => Left::Inst(self.inst.free()),
-            Kind::ITerm => Left::ITerm(self.iterm.free()),
-            Kind::Net => Left::Net(self.net.free()),
-            Kind::BTerm => Left::BTerm(self.bterm.free()),
-            Kind::Pin => Left::Pin(self.pin.free()),
-            Kind::Row => Left::Row(self.row.free()),
-            Kind::Track => Left::Track(self.track.free()),
-            Kind::Wire => Left::Wire(self.wire.free()),
-            Kind::Blockage => Left::Blockage(self.blockage.free()),
-            Kind::Region => Left::Region(self.region.free()),
-            Kind::Group => Left::Group(self.group.free()),
-            Kind::Prop => Left::Prop(self.prop.free()),
+            Kind::Inst => Left::Inst(self.pools.inst.free()),
+            Kind::ITerm => Left::ITerm(self.pools.iterm.free()),
+            Kind::Net => Left::Net(self.pools.net.free()),
+            Kind::BTerm => Left::BTerm(self.pools.bterm.free()),
+            Kind::Pin => Left::Pin(self.pools.pin.free()),
+            Kind::Row => Left::Row(self.pools.row.free()),
+            Kind::Track => Left::Track(self.pools.track.free()),
+            Kind::Wire => Left::Wire(self.pools.wire.free()),
+            Kind::Blockage => Left::Blockage(self.pools.blockage.free()),
+            Kind::Region => Left::Region(self.pools.region.free()),
+            Kind::Group => Left::Group(self.pools.group.free()),
+            Kind::Prop => Left::Prop(self.pools.prop.free()),
         };
         FreeIds { left }
     }

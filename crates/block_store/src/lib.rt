@@ -15,9 +15,11 @@
 //! [`Block::with_tables`] makes a block of [`Tables`], plain vectors of slots and free identifiers. It judges nothing
 //! but what it asks for: whether the block is sound is for the crate `block_tables`.
 //!
-//! The calls keep tables good, and ask that no name comes twice in a kind and that no object goes while it stands in
-//! a list. They don't keep a list and the field by which a member names the list's object in step: `link` changes
-//! the one and `set_net` the other. That, and what a design means, is for the crates above.
+//! Each block is consistent: tables are good, no two objects of a kind have one name, and each member of a list is
+//! there, stands in it once and in no other list of its sort. The calls keep that, and ask for what it takes: that a
+//! name is new, that an object that goes stands alone, and that a member enters from outside. They don't keep a list
+//! and the field by which a member names the list's object in step: `link` changes the one and `set_net` the other.
+//! That, and what a design means, is for the crates above.
 #![tactic(auto)]
 
 pub mod block;
@@ -36,6 +38,7 @@ mod members;
 pub mod names;
 pub mod next;
 pub mod objects;
+mod pools;
 pub mod records;
 pub mod tables;
 pub mod values;
@@ -51,6 +54,7 @@ pub use laws::names_and_finding;
 pub use list_of::ListOf;
 pub use live::Live;
 pub use names::Named;
+pub use next::NextIds;
 pub use tables::{PlainTable, Tables};
-pub use values::{SITE_LIMIT, is_bterm_direction, is_placement, is_row, is_site_count};
+pub use values::SITE_LIMIT;
 pub use walk::Walk;

@@ -65,6 +65,7 @@ impl Block {
         ensures count { result ≡ live_count_in kind self.now.block }
         ensures others { result + length (free_in kind self.now.block) ≡ slots_in kind self.now.block }
     {
-        by_kind!(self, kind, table => table.live_count())
+        let pools = &self.pools;
+        by_kind!(pools, kind, table => table.live_count())
     }
 }

@@ -6,7 +6,6 @@ use crate::block::Block;
 use crate::list_of::ListOf;
 use odb_base::Kind;
 use std::alloc::AllocError;
-use std::mem;
 
 impl Block {
     /// The members of a list in their order. An object that isn't there has none.
@@ -14,28 +13,28 @@ impl Block {
         ensures { result.now ≡ list_at list self.now.block }
     {
         match list {
-            ListOf::Terms(net) => match self.net.get(net.0) {
+            ListOf::Terms(net) => match self.pools.net.get(net.0) {
                 Some(entry) => entry.terms.items(),
                 None => &[],
             },
-            ListOf::Wires(net) => match self.net.get(net.0) {
+            ListOf::Wires(net) => match self.pools.net.get(net.0) {
                 Some(entry) => entry.wires.items(),
                 None => &[],
             },
-            ListOf::Members(group) => match self.group.get(group.0) {
+            ListOf::Members(group) => match self.pools.group.get(group.0) {
                 Some(entry) => entry.members.items(),
                 None => &[],
             },
-            ListOf::Pins(bterm) => match self.bterm.get(bterm.0) {
+            ListOf::Pins(bterm) => match self.pools.bterm.get(bterm.0) {
                 Some(entry) => entry.pins.items(),
                 None => &[],
             },
-            ListOf::Groups(region) => match self.region.get(region.0) {
+            ListOf::Groups(region) => match self.pools.region.get(region.0) {
                 Some(entry) => entry.groups.items(),
                 None => &[],
             },
             ListOf::Props(kind, id) => self.props(kind, id),
-            ListOf::InstTerms(inst) => match self.inst.get(inst.0) {
+            ListOf::InstTerms(inst) => match self.pools.inst.get(inst.0) {
                 Some(entry) => entry.fields.terminals.items(),
                 None => &[],
             },
@@ -47,23 +46,23 @@ impl Block {
         ensures { result.now ≡ props_at kind id self.now.block }
     {
         match kind {
-            Kind::Inst => match self.inst.get(id) {
+            Kind::Inst => match self.pools.inst.get(id) {
                 Some(entry) => entry.props.items(),
                 None => &[],
             },
-            Kind::Net => match self.net.get(id) {
+            Kind::Net => match self.pools.net.get(id) {
                 Some(entry) => entry.props.items(),
                 None => &[],
             },
-            Kind::Row => match self.row.get(id) {
+            Kind::Row => match self.pools.row.get(id) {
                 Some(entry) => entry.props.items(),
                 None => &[],
             },
-            Kind::Region => match self.region.get(id) {
+            Kind::Region => match self.pools.region.get(id) {
                 Some(entry) => entry.props.items(),
                 None => &[],
             },
-            Kind::Group => match self.group.get(id) {
+            Kind::Group => match self.pools.group.get(id) {
                 Some(entry) => entry.props.items(),
                 None => &[],
             },
@@ -79,7 +78,7 @@ impl Block {
         ensures room { self.new.room ≡ record self.old.room { list = self.new.room.list } }
     {
         let count = self.members(list).len();
-        self.spare.reserve(count + 1)
+        self.pools.room_for(count + 1)
     }
 
     /// The number that stands for a terminal in the list of a net.
@@ -104,7 +103,6 @@ impl Block {
         ensures cap { self.new.cap ≡ self.old.cap }
         ensures room { self.new.room ≡ record self.old.room { list = self.new.room.list } }
     {
-        let alloc = self.allocator();
-        mem::replace(&mut self.spare, Vec::new(alloc))
+        self.pools.take_room()
     }
 }

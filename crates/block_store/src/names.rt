@@ -97,12 +97,12 @@ impl Block {
         ensures { result ≡ find_in kind name.now self.now.block }
     {
         match kind {
-            Kind::Inst => find_named(&self.inst, name),
-            Kind::Net => find_named(&self.net, name),
-            Kind::BTerm => find_named(&self.bterm, name),
-            Kind::Row => find_named(&self.row, name),
-            Kind::Region => find_named(&self.region, name),
-            Kind::Group => find_named(&self.group, name),
+            Kind::Inst => find_named(&self.pools.inst, name),
+            Kind::Net => find_named(&self.pools.net, name),
+            Kind::BTerm => find_named(&self.pools.bterm, name),
+            Kind::Row => find_named(&self.pools.row, name),
+            Kind::Region => find_named(&self.pools.region, name),
+            Kind::Group => find_named(&self.pools.group, name),
             Kind::ITerm | Kind::Pin | Kind::Track | Kind::Wire | Kind::Blockage | Kind::Prop =>
                 None,
         }
@@ -113,12 +113,12 @@ impl Block {
         ensures { option_copied result ≡ name_in kind id self.now.block }
     {
         match kind {
-            Kind::Inst => name_in_pool(&self.inst, id),
-            Kind::Net => name_in_pool(&self.net, id),
-            Kind::BTerm => name_in_pool(&self.bterm, id),
-            Kind::Row => name_in_pool(&self.row, id),
-            Kind::Region => name_in_pool(&self.region, id),
-            Kind::Group => name_in_pool(&self.group, id),
+            Kind::Inst => name_in_pool(&self.pools.inst, id),
+            Kind::Net => name_in_pool(&self.pools.net, id),
+            Kind::BTerm => name_in_pool(&self.pools.bterm, id),
+            Kind::Row => name_in_pool(&self.pools.row, id),
+            Kind::Region => name_in_pool(&self.pools.region, id),
+            Kind::Group => name_in_pool(&self.pools.group, id),
             Kind::ITerm | Kind::Pin | Kind::Track | Kind::Wire | Kind::Blockage | Kind::Prop =>
                 None,
         }

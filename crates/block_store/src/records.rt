@@ -18,83 +18,83 @@ impl Block {
     pub fn inst(&self, id: InstId) -> Option<&InstRec>
         ensures { option_copied result ≡ option_map (λ e. e.fields) (record_at self.now.block.inst id.0) }
     {
-        Some(&self.inst.get(id.0)?.fields)
+        Some(&self.pools.inst.get(id.0)?.fields)
     }
 
     /// A terminal of an instance.
     pub fn iterm(&self, id: ITermId) -> Option<&ITermRec>
         ensures { option_copied result ≡ record_at self.now.block.iterm id.0 }
     {
-        self.iterm.get(id.0)
+        self.pools.iterm.get(id.0)
     }
 
     /// A net.
     pub fn net(&self, id: NetId) -> Option<&NetRec>
         ensures { option_copied result ≡ option_map (λ e. e.fields) (record_at self.now.block.net id.0) }
     {
-        Some(&self.net.get(id.0)?.fields)
+        Some(&self.pools.net.get(id.0)?.fields)
     }
 
     /// A terminal of the block.
     pub fn bterm(&self, id: BTermId) -> Option<&BTermRec>
         ensures { option_copied result ≡ option_map (λ e. e.fields) (record_at self.now.block.bterm id.0) }
     {
-        Some(&self.bterm.get(id.0)?.fields)
+        Some(&self.pools.bterm.get(id.0)?.fields)
     }
 
     /// A pin of a block terminal.
     pub fn pin(&self, id: PinId) -> Option<&PinRec>
         ensures { option_copied result ≡ record_at self.now.block.pin id.0 }
     {
-        self.pin.get(id.0)
+        self.pools.pin.get(id.0)
     }
 
     /// A row.
     pub fn row(&self, id: RowId) -> Option<&RowRec>
         ensures { option_copied result ≡ option_map (λ e. e.fields) (record_at self.now.block.row id.0) }
     {
-        Some(&self.row.get(id.0)?.fields)
+        Some(&self.pools.row.get(id.0)?.fields)
     }
 
     /// Tracks.
     pub fn track(&self, id: TrackId) -> Option<&TrackRec>
         ensures { option_copied result ≡ record_at self.now.block.track id.0 }
     {
-        self.track.get(id.0)
+        self.pools.track.get(id.0)
     }
 
     /// A wire.
     pub fn wire(&self, id: WireId) -> Option<&WireRec>
         ensures { option_copied result ≡ record_at self.now.block.wire id.0 }
     {
-        self.wire.get(id.0)
+        self.pools.wire.get(id.0)
     }
 
     /// A blockage.
     pub fn blockage(&self, id: BlockageId) -> Option<&BlockageRec>
         ensures { option_copied result ≡ record_at self.now.block.blockage id.0 }
     {
-        self.blockage.get(id.0)
+        self.pools.blockage.get(id.0)
     }
 
     /// A region.
     pub fn region(&self, id: RegionId) -> Option<&RegionRec>
         ensures { option_copied result ≡ option_map (λ e. e.fields) (record_at self.now.block.region id.0) }
     {
-        Some(&self.region.get(id.0)?.fields)
+        Some(&self.pools.region.get(id.0)?.fields)
     }
 
     /// A group.
     pub fn group(&self, id: GroupId) -> Option<&GroupRec>
         ensures { option_copied result ≡ option_map (λ e. e.fields) (record_at self.now.block.group id.0) }
     {
-        Some(&self.group.get(id.0)?.fields)
+        Some(&self.pools.group.get(id.0)?.fields)
     }
 
     /// A property.
     pub fn prop(&self, id: PropId) -> Option<&PropRec>
         ensures { option_copied result ≡ record_at self.now.block.prop id.0 }
     {
-        self.prop.get(id.0)
+        self.pools.prop.get(id.0)
     }
 }

@@ -1,16 +1,32 @@
 // Tests of values that objects have.
 ghost use Rattle.std.specs.Prelude.{◌≡◌, ◌↔◌, ◌≤◌, IsTrue, length};
 ghost use Rattle.odb_base.specs.Geometry.{IsCoordinate};
-ghost use Rattle.block_store.specs.BlockTerminals.{IsBTermDirection};
 ghost use Rattle.block_store.specs.Placements.{IsPlacement, unplaced};
 ghost use Rattle.block_store.specs.Rows.{IsRepeated, IsRowRec, IsSiteCount};
+ghost use Rattle.block_store.specs.View.{is_built};
 
 use block_records::RowRec;
-use odb_base::{Direction, PlaceStatus, Placement, RowForm, is_coordinate};
+use odb_base::{Kind, PlaceStatus, Placement, RowForm, is_coordinate};
 use tech::Tech;
 
 /// The greatest number of sites of a row along an axis.
 pub const SITE_LIMIT: u32 = 1_000_000;
+
+/// Whether objects of the kind can be made. The tables of other kinds are empty in every sound block.
+pub fn is_built(kind: Kind) -> bool
+    ensures { result ≡ is_built kind }
+{
+    match kind {
+        Kind::Inst | Kind::ITerm | Kind::Net | Kind::BTerm | Kind::Row => true,
+        Kind::Pin
+        | Kind::Track
+        | Kind::Wire
+        | Kind::Blockage
+        | Kind::Region
+        | Kind::Group
+        | Kind::Prop => false,
+    }
+}
 
 /// Whether the coordinates are within their limit, and what has no place stands at 0, 0 and is turned N.
 pub fn is_placement(place: Placement) -> bool
@@ -27,20 +43,6 @@ fn rests(place: Placement) -> bool
     match place.status {
         PlaceStatus::Unplaced => place == Placement::UNPLACED,
         PlaceStatus::Placed | PlaceStatus::Fixed | PlaceStatus::Cover => true,
-    }
-}
-
-/// Whether a terminal of the block may have the direction: any but OUTPUT TRISTATE.
-pub fn is_bterm_direction(direction: Direction) -> bool
-    ensures { IsTrue result ↔ IsBTermDirection direction }
-{
-    match direction {
-        Direction::Tristate => false,
-        Direction::None
-        | Direction::Input
-        | Direction::Output
-        | Direction::Inout
-        | Direction::Feedthru => true,
     }
 }
 

@@ -5,7 +5,8 @@ ghost use Rattle.block_store.specs.Instances.{IsInst, term_count};
 ghost use Rattle.block_store.specs.Nets.{IsNet};
 
 use block_records::Header;
-use block_store::{BTermEntry, InstEntry, NetEntry, is_bterm_direction, is_placement};
+use block_store::values::is_placement;
+use block_store::{BTermEntry, InstEntry, NetEntry};
 use library::Library;
 use odb_base::{MasterId, Text};
 
@@ -46,7 +47,7 @@ pub(crate) fn is_bterm(bterm: &BTermEntry) -> bool
     ensures { IsTrue result ↔ IsBTerm bterm.now }
 {
     let _name = bterm.fields.name.bytes();
-    let directed = is_bterm_direction(bterm.fields.direction);
+    let directed = bterm.fields.direction.fits_bterm();
     let bare = bterm.fields.kept.bytes().is_empty() && bterm.pins.items().is_empty();
     directed && bare
 }

@@ -1,21 +1,11 @@
 -- The identifiers that a table gives next.
-use Rattle.std.proofs.Common.{◌≡◌, ◌+◌, ◌-◌, ◌<◌, List, [], ◌∷◌, ◌++◌, ℕ, zero, suc, Some, length, refl, ap, sym, ◌∙◌, append_assoc, arith}
+use Rattle.std.proofs.Common.{◌≡◌, ◌+◌, ◌<◌, List, [], ◌∷◌, ℕ, zero, suc, Some, length, take, refl, ap, sym, ◌∙◌, arith}
 use Rattle.std.specs.List.{slice_get}
 use Rattle.slot_pool.specs.Table.{Table, next_id}
 use Rattle.steps_net.specs.Can.{AreNext}
 use Rattle.edits.specs.Plan.{next_ids}
 
 module _ {A : Type 0} (t : Table A) where
-  -- the first of those that are still to come
-  pub next_ids_more : (k n : ℕ) → k < n → next_ids k (n - k) t ≡ next_id t k ∷ next_ids (k + 1) (n - (k + 1)) t
-  next_ids_more k n below =
-      let e : n - k ≡ suc (n - (k + 1)) = omega arith in
-      ap (λ m. next_ids k m t) e
-
-  -- one more is pushed
-  pub next_ids_pushed : (ids : List ℕ) (k n : ℕ) → k < n → (ids ++ next_id t k ∷ []) ++ next_ids (k + 1) (n - (k + 1)) t ≡ ids ++ next_ids k (n - k) t
-  next_ids_pushed ids k n below = append_assoc ids (next_id t k ∷ []) _ ∙ ap (λ more. ids ++ more) (sym (next_ids_more k n below))
-
   -- there are so many
   pub count_next_ids : (from n : ℕ) → length (next_ids from n t) ≡ n
   count_next_ids from zero = refl
@@ -36,3 +26,13 @@ module _ {A : Type 0} (t : Table A) where
   next_ids_are_next n k id h =
       let place : 0 + k ≡ k = omega arith in
       next_from 0 n k id h ∙ ap (next_id t) place
+
+  -- the first so many of a list in which each stands at its place
+  pub first_next_ids : (ids : List ℕ) (from n : ℕ) → ((k : ℕ) → k < n → slice_get ids k ≡ Some (next_id t (from + k))) → take n ids ≡ next_ids from n t
+  first_next_ids ids from zero at = refl
+  first_next_ids [] from (suc n) at = let none = at 0 (omega arith) in cc
+  first_next_ids (x ∷ ids) from (suc n) at =
+      let first : x ≡ next_id t from = let stands = at 0 (omega arith) in let place : from + 0 ≡ from = omega arith in cc in
+      let place : (k : ℕ) → from + suc k ≡ from + 1 + k = λ k. omega arith in
+      let rest = first_next_ids ids (from + 1) n (λ k below. at (suc k) (omega (arith, below)) ∙ ap (λ i. Some (next_id t i)) (place k)) in
+      cc

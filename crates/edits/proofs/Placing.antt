@@ -2,6 +2,7 @@
 use Rattle.std.proofs.Common.{◌≡◌, ◌<◌, ◌≤◌, ◌&&◌, true, ℤ, pos, negsuc, refl, ap, ◌∙◌, arith}
 use Rattle.std.proofs.lemmas.Bool.{and_parts, eqb-true, false≢true, leb-true, ltb-true}
 use Rattle.std.proofs.lemmas.Int.{ints}
+use Rattle.odb_base.proofs.Coordinates.{coordinate_test}
 use Rattle.odb_base.specs.Geometry.{IsCoordinate, is_coordinate}
 use Rattle.odb_base.specs.declared.codes.orient.Orient.{Orient}
 use Rattle.odb_base.specs.declared.codes.orient.Orient.TheVariants as orient
@@ -9,14 +10,6 @@ use Rattle.odb_base.specs.declared.codes.place_status.PlaceStatus.{PlaceStatus}
 use Rattle.odb_base.specs.declared.codes.place_status.PlaceStatus.TheVariants as status
 use Rattle.block_store.specs.Placements.{IsPlacement, unplaced}
 use Rattle.edits.specs.Plan.{fits_status, is_north, is_zero}
-
-pub lawful_coordinate : (n : ℤ) → is_coordinate n ≡ true → IsCoordinate n
-lawful_coordinate (pos n) h =
-    let within : n ≤ 2000000000 = leb-true n 2000000000 h in
-    (omega (arith, ints), omega (arith, ints))
-lawful_coordinate (negsuc n) h =
-    let within : n < 2000000000 = ltb-true n 2000000000 h in
-    (omega (arith, ints), omega (arith, ints))
 
 zero_is : (n : ℤ) → is_zero n ≡ true → n ≡ pos 0
 zero_is (pos n) h = ap pos (eqb-true n 0 h)
@@ -38,7 +31,7 @@ stands other x y orientation h e = cc
 
 pub lawful_placement : (state : PlaceStatus) (x y : ℤ) (orientation : Orient) → is_coordinate x ≡ true → is_coordinate y ≡ true → fits_status state x y orientation ≡ true → IsPlacement (record { status = state; x = x; y = y; orientation = orientation })
 lawful_placement state x y orientation along_x along_y fits = record {
-  x = lawful_coordinate x along_x;
-  y = lawful_coordinate y along_y;
+  x = (coordinate_test x).0 along_x;
+  y = (coordinate_test y).0 along_y;
   unplaced = stands state x y orientation fits;
 }

@@ -3,6 +3,7 @@
 use Rattle.std.proofs.Common.{◌≡◌, ◌++◌, false, List, [], ◌∷◌, ℕ, suc, ℤ, Option, None, Some, Ok, is_none, length, map, refl, sym, ap, subst, ◌∙◌, arith, ◌-◌, true, Result, Err, IfOk, Vec, not, Bool, cond, IsTrue, pos}
 use Rattle.std.specs.Prelude.{Contains, nat_lt, not, unwrap_or}
 use Rattle.std.specs.Option.{option_and_then, option_map}
+use Rattle.odb_base.specs.Direction.{is_bterm_direction}
 use Rattle.odb_base.specs.Geometry.{is_coordinate}
 use Rattle.odb_base.specs.Kind.{has_names, has_place, has_usage, is_terminal}
 use Rattle.odb_base.specs.declared.codes.direction.Direction.{Direction}
@@ -28,7 +29,7 @@ use Rattle.steps_net.specs.Can.{inst_master, Can}
 use Rattle.steps_net.specs.Room.{lacking, lacks}
 use Rattle.edits.specs.declared.rows.Repeat.{Repeat}
 use Rattle.edits.specs.Checks.{◌>>=◌, lawful, nothing_lacks, unheld, live}
-use Rattle.edits.specs.Plan.{Planned, differing, fits_status, is_bterm_direction, is_site_count, next_ids, plan, plan_destroy, plan_destroyed, plan_join, plan_make_special, plan_new_bterm, plan_new_inst, plan_new_net, plan_new_row, plan_part, plan_place, plan_rename, plan_set_dir, plan_set_use, plan_swap, repeat_of, same_terms, whole, CanAll, first_differing, new_inst_of, one, row_of, unjoined}
+use Rattle.edits.specs.Plan.{Planned, differing, fits_status, is_site_count, next_ids, plan, plan_destroy, plan_destroyed, plan_join, plan_make_special, plan_new_bterm, plan_new_inst, plan_new_net, plan_new_row, plan_part, plan_place, plan_rename, plan_set_dir, plan_set_use, plan_swap, repeat_of, same_terms, whole, CanAll, first_differing, new_inst_of, one, row_of, unjoined}
 use Rattle.edits.specs.Refusals.{Applies, PlansUnrefused, RefusesFirst, Value, is_destroyed_alone, makes, new_name, site_values, terms_named, values}
 use Rattle.edits.proofs.Asking.{Asks, asked, asked_within, asks_joined, asks_lawful, asks_live, asks_room, asks_sought, asks_unheld, asks_unjoined, asks_value, clears, is_special, tests, two_tables}
 use Rattle.edits.proofs.EditQuestions.{applies_fails, name_question, questions, questions_in_order, room_question, taken_question, value_question}
@@ -38,7 +39,6 @@ use Rattle.edits.proofs.Questions.{there, alike, enough, faultless, held, joined
 use Rattle.std.proofs.lemmas.Bool.{false≢true}
 use Rattle.slot_pool.specs.Table.{is_live, record_at}
 use Rattle.odb_base.specs.Name.{IsName, name_fault}
-use Rattle.odb_base.specs.declared.codes.direction.Direction.TheVariants as direction
 use Rattle.tech.specs.declared.site.Site.{Site}
 use Rattle.named_list.proofs.Ids.{found_are_named, placed}
 use Rattle.std.proofs.lemmas.Option.{slice_get_within}
@@ -46,7 +46,6 @@ use Rattle.edit_words.specs.Tag.{fresh_bterm}
 use Rattle.edit_words.specs.declared.refusal.Refusal.{Refusal}
 use Rattle.edit_words.specs.declared.step.Step.TheVariants as step
 use Rattle.block_store.specs.Names.{IsFree, find_in}
-use Rattle.block_store.specs.BlockTerminals.{IsBTermDirection}
 use Rattle.block_store.specs.Sound.{IsSound}
 use Rattle.block_store.specs.Moves.{new_bterm}
 use Rattle.block_store.specs.Placements.{IsPlacement}
@@ -63,11 +62,6 @@ use Rattle.edits.proofs.Terminals.{same_names}
 -- a name that no object of the kind has
 is_free : (k : Kind) (b : Block) (name : List ℕ) (u : Unit {0}) → unheld b k name ≡ Ok u → IsFree k name b
 is_free k b name u h = (free_names_are_not_found k b name).0 (unfound (find_in k name b) u h)
-
--- the direction may stand at a block terminal
-stands : (way : Direction) → is_bterm_direction way ≡ true → IsBTermDirection way
-stands direction.Tristate h = false≢true h
-stands other h = tt
 
 -- of two tables the first allows its new object
 then_next : (short : Bool) (k : Kind) (next : Option Kind) → cond short (Some k) None ≡ None → cond short (Some k) next ≡ next
@@ -107,7 +101,7 @@ module _ (tech : Technology) (library : List Master) (cap : ℕ) (b : Block) whe
       (λ good free room sound. (record { next = refl; lawful = record { name = good; kept = refl; special_kept = refl; wires = refl; props = refl }; free = free }, room, tt))
 
   can_new_bterm : (name : List ℕ) → IsName name → IsFree kind.BTerm name b → Can tech library b (step.NewBTerm (next_in kind.BTerm b) name)
-  can_new_bterm name good free = record { next = refl; lawful = record { name = good; direction = tt; kept = refl; pins = refl }; free = free }
+  can_new_bterm name good free = record { next = refl; lawful = record { name = good; direction = refl; kept = refl; pins = refl }; free = free }
 
   asks_new_bterm : (name : List ℕ) (net : Option ℕ) → IsAsked (edit.NewBTerm name net) (plan_new_bterm cap b name net)
   asks_new_bterm name None =
@@ -300,7 +294,7 @@ module _ (tech : Technology) (library : List Master) (cap : ℕ) (b : Block) whe
       asked CanFollow (asks_live tech library cap b e 1 kind.BTerm bterm (0, omega arith, refl)) _ _ (λ u is_there.
       asked CanFollow (asks_value tech library cap b e 2 (is_bterm_direction way) tt (0, omega arith, refl)) _ _ (λ v fits.
       does e (step.SetDir bterm way)
-      (λ sound. (held (is_live b.bterm bterm) (refusal.NotLive kind.BTerm bterm) u is_there, stands way (held (is_bterm_direction way) (refusal.BadValue 2) v fits))) refl))
+      (λ sound. (held (is_live b.bterm bterm) (refusal.NotLive kind.BTerm bterm) u is_there, held (is_bterm_direction way) (refusal.BadValue 2) v fits)) refl))
 
   asks_make_special : (net : ℕ) → IsAsked (edit.MakeSpecial net) (plan_make_special b net)
   asks_make_special net =

@@ -7,14 +7,14 @@ use Rattle.edit_words.specs.declared.refusal.Refusal.TheVariants as refusal
 use Rattle.block_store.specs.Rows.{IsRepeated, IsSiteCount}
 use Rattle.edits.specs.declared.rows.Repeat.{Repeat}
 use Rattle.edits.specs.Plan.{coordinate, is_site_count, site_count}
-use Rattle.edits.proofs.Placing.{lawful_coordinate}
+use Rattle.odb_base.proofs.Coordinates.{coordinate_test}
 use Rattle.edits.proofs.Questions.{err_ok, tested}
 
 -- a coordinate that was let pass
 pub passed_coordinate : (n : ℤ) (place : ℕ) (m : ℤ) → coordinate n place ≡ Ok m → IsCoordinate m
 passed_coordinate n place m h =
     let t = tested (is_coordinate n) n m (refusal.BadValue place) h in
-    subst IsCoordinate t.1 (lawful_coordinate n t.0)
+    subst IsCoordinate t.1 ((coordinate_test n).0 t.0)
 
 -- and a number of sites
 pub passed_count : (n : ℤ) (place k : ℕ) → site_count n place ≡ Ok k → IsSiteCount k

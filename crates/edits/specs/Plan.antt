@@ -4,10 +4,10 @@ use Rattle.std.specs.Prelude.{◌≡◌, ◌==◌, ◌&&◌, ◌+◌, ◌/◌, �
 use Rattle.std.specs.List.{find}
 use Rattle.std.specs.Option.{option_map, option_map_or, option_or}
 use Rattle.slot_pool.specs.Table.{Table, next_id}
+use Rattle.odb_base.specs.Direction.{is_bterm_direction}
 use Rattle.odb_base.specs.Geometry.{is_coordinate}
 use Rattle.odb_base.specs.Kind.{has_names, has_place, has_usage, is_terminal}
 use Rattle.odb_base.specs.declared.codes.direction.Direction.{Direction}
-use Rattle.odb_base.specs.declared.codes.direction.Direction.TheVariants as direction
 use Rattle.odb_base.specs.declared.codes.kind.Kind.{Kind}
 use Rattle.odb_base.specs.declared.codes.kind.Kind.TheVariants as kind
 use Rattle.odb_base.specs.declared.codes.orient.Orient.{Orient}
@@ -256,11 +256,6 @@ plan_set_use b k id usage = do
   there ← live b k id
   used ← allowed (has_usage k) 1
   one (step.SetUse k id usage)
-
--- a block terminal may have the direction
-abbrev pub is_bterm_direction : Direction → Bool
-is_bterm_direction direction.Tristate = false
-is_bterm_direction other = true
 
 -- another direction; refused where the block terminal isn't there or may not have it
 abbrev pub plan_set_dir : Block → ℕ → Direction → Planned

@@ -2,6 +2,7 @@
 -- of an edit refuses it with the first.
 use Rattle.std.specs.Prelude.{◌≡◌, ◌≢◌, ◌<◌, ◌≤◌, ◌⊎◌, Bool, true, false, List, [], ◌∷◌, ℕ, Option, None, Some, Contains, MatchOption, Err, Ok, unwrap_or}
 use Rattle.std.specs.Option.{option_and_then}
+use Rattle.odb_base.specs.Direction.{is_bterm_direction}
 use Rattle.odb_base.specs.Geometry.{is_coordinate}
 use Rattle.odb_base.specs.Kind.{has_names, has_place, has_usage, is_terminal, kind_code}
 use Rattle.odb_base.specs.Name.{IsName}
@@ -22,7 +23,7 @@ use Rattle.block_store.specs.Fields.{net_in, special_in}
 use Rattle.block_store.specs.Instances.{term_count}
 use Rattle.block_store.specs.Names.{name_in}
 use Rattle.steps_net.specs.Can.{inst_master}
-use Rattle.edits.specs.Plan.{differing, fits_status, is_bterm_direction, is_site_count, plan}
+use Rattle.edits.specs.Plan.{differing, fits_status, is_site_count, plan}
 
 -- the number of a refusal in a reply; want of memory, which has no reply, comes behind the others
 abbrev pub refusal_number : Refusal → ℕ

@@ -147,9 +147,9 @@ fn next_terminals(alloc: Global, block: &Block, count: u32) -> Result<Terminals,
     requires { count ≤ left_in Kind.ITerm block.now.cap block.now.block }
     ensures { IfOk result (λ ids. ids ≡ next_ids 0 count block.now.block.iterm) }
 {
-    let mut ids = Vec::new(alloc);
-    for k in 0..count {
-        ids.push(block.next_id(Kind::ITerm, k) as u32)?;
-    }
+    let ids = block
+        .next_ids(Kind::ITerm)
+        .take(count as usize)
+        .collect(alloc)?;
     Ok(List::from_vec(ids))
 }

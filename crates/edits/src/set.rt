@@ -1,6 +1,6 @@
 ghost use Rattle.std.specs.Prelude.{◌≡◌};
 ghost use Rattle.block_store.specs.Fields.{net_in};
-ghost use Rattle.edits.specs.Plan.{fits_status, is_bterm_direction, is_north, joined, plan_join, plan_make_special, plan_part, plan_place, plan_rename, plan_set_dir, plan_set_use, unjoined};
+ghost use Rattle.edits.specs.Plan.{fits_status, is_north, joined, plan_join, plan_make_special, plan_part, plan_place, plan_rename, plan_set_dir, plan_set_use, unjoined};
 ghost use Rattle.edits.specs.Planning.{IsPlanned};
 
 use crate::checks::{allowed, coordinate, lawful, live, unheld};
@@ -94,15 +94,8 @@ pub fn plan_set_dir(
     ensures { IsPlanned (plan_set_dir block.now.block bterm direction) result }
 {
     live(block, Kind::BTerm, bterm)?;
-    allowed(is_bterm_direction(direction), 2)?;
+    allowed(direction.fits_bterm(), 2)?;
     Ok(one(alloc, Step::SetDir { bterm, direction })?)
-}
-
-// The direction may stand at a block terminal.
-fn is_bterm_direction(direction: Direction) -> bool
-    ensures { result ≡ is_bterm_direction direction }
-{
-    !matches!(direction, Direction::Tristate)
 }
 
 /// The plan of a net that becomes special.

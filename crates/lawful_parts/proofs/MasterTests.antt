@@ -5,14 +5,16 @@ use Rattle.std.specs.List.{list_all, list_any}
 use Rattle.std.specs.Str.{bytes_eq}
 use Rattle.std.proofs.lemmas.Bool.{and_parts, false_from_ne_true, false≢true}
 use Rattle.std.proofs.lemmas.Slice.Eq.{bytes_eq-Decides}
+use Rattle.odb_base.specs.Geometry.{is_coordinate}
 use Rattle.named_list.specs.Naming.{AreNamesDistinct}
 use Rattle.tech.specs.Technology.{Technology}
 use Rattle.library.specs.declared.master.Master.{Master}
 use Rattle.library.specs.declared.mterm.MTerm.{MTerm}
 use Rattle.lawful_parts.specs.Lawful.{IsMTerm, IsMaster}
-use Rattle.lawful_parts.specs.Tests.{are_distinct, are_shapes, has_lawful_rest, has_lawful_sizes, has_lawful_terminals, has_lawful_texts, is_coordinate, is_master, is_mterm, is_name}
+use Rattle.lawful_parts.specs.Tests.{are_distinct, are_shapes, has_lawful_rest, has_lawful_sizes, has_lawful_terminals, has_lawful_texts, is_master, is_mterm, is_name}
 use Rattle.lawful_parts.proofs.ShapeTests.{shapes_are_tested}
-use Rattle.lawful_parts.proofs.TestLemmas.{all_test, both, coordinate_test, le_test, lt_test, name_test, none_passes, not_true, some_passes}
+use Rattle.odb_base.proofs.Coordinates.{coordinate_test}
+use Rattle.lawful_parts.proofs.TestLemmas.{all_test, both, le_test, lt_test, name_test, none_passes, not_true, some_passes}
 
 abbrev AreDistinct : List MTerm → Type 0
 AreDistinct ts = AreNamesDistinct (λ (t : MTerm). t.name) ts

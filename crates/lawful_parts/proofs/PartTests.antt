@@ -1,14 +1,16 @@
 -- The tests of layers, vias and sites are true exactly where those are lawful.
 use Rattle.std.proofs.Common.{◌≡◌, ◌&&◌, ◌↔◌, Bool, List, ℕ, nat_lt}
 use Rattle.std.specs.Prelude.{IsTrue, is_none}
+use Rattle.odb_base.specs.Geometry.{is_coordinate}
 use Rattle.tech.specs.Technology.{Technology}
 use Rattle.tech.specs.declared.layer.Layer.{Layer}
 use Rattle.tech.specs.declared.site.Site.{Site}
 use Rattle.tech.specs.declared.via.TechVia.{TechVia}
 use Rattle.lawful_parts.specs.Lawful.{IsLayer, IsSite, IsTechVia, orient_of}
-use Rattle.lawful_parts.specs.Tests.{are_shapes, is_coordinate, is_layer, is_name, is_site, is_tech_via}
+use Rattle.lawful_parts.specs.Tests.{are_shapes, is_layer, is_name, is_site, is_tech_via}
 use Rattle.lawful_parts.proofs.ShapeTests.{shapes_are_tested}
-use Rattle.lawful_parts.proofs.TestLemmas.{both, coordinate_test, lt_test, name_test, none_test}
+use Rattle.odb_base.proofs.Coordinates.{coordinate_test}
+use Rattle.lawful_parts.proofs.TestLemmas.{both, lt_test, name_test, none_test}
 
 pub layer_is_tested : (l : Layer) → IsTrue (is_layer l) ↔ IsLayer l
 unfolding is_layer

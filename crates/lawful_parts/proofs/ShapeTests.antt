@@ -2,13 +2,14 @@
 use Rattle.std.proofs.Common.{◌≡◌, ◌&&◌, ◌↔◌, Bool, List, ℕ, length, nat_le}
 use Rattle.std.specs.Prelude.{IsTrue}
 use Rattle.std.specs.List.{list_all}
-use Rattle.odb_base.specs.Geometry.{IsRect}
+use Rattle.odb_base.specs.Geometry.{IsRect, is_coordinate}
 use Rattle.odb_base.specs.declared.geometry.Rect.{Rect}
 use Rattle.odb_base.specs.declared.geometry.Shape.{Shape}
 use Rattle.tech.specs.Technology.{Technology}
 use Rattle.lawful_parts.specs.Lawful.{AreShapes, IsIdAmong, IsShape}
-use Rattle.lawful_parts.specs.Tests.{are_shapes, has_lawful_corners, int_le, is_coordinate, is_in_order, is_id_among, is_rect, is_shape}
-use Rattle.lawful_parts.proofs.TestLemmas.{all_test, both, coordinate_test, int_le_test, le_test}
+use Rattle.lawful_parts.specs.Tests.{are_shapes, has_lawful_corners, int_le, is_in_order, is_id_among, is_rect, is_shape}
+use Rattle.odb_base.proofs.Coordinates.{coordinate_test}
+use Rattle.lawful_parts.proofs.TestLemmas.{all_test, both, int_le_test, le_test}
 
 rect_test : (r : Rect) → IsTrue (is_rect r) ↔ IsRect r
 rect_test r =

@@ -5,10 +5,10 @@ use Rattle.std.specs.List.{list_all, list_any}
 use Rattle.std.proofs.lemmas.Bool.{and_parts, false≢true, le-leb, leb-true, lt-ltb, ltb-true, or_left, or_right}
 use Rattle.std.proofs.lemmas.Bool.Decides.{nat_tests}
 use Rattle.std.proofs.lemmas.Int.{ints}
-use Rattle.odb_base.specs.Geometry.{IsCoordinate}
+use Rattle.odb_base.specs.Geometry.{IsCoordinate, is_coordinate}
 use Rattle.odb_base.specs.Name.{IsName, name_fault}
 use Rattle.lawful_parts.specs.Lawful.{AreAll}
-use Rattle.lawful_parts.specs.Tests.{int_le, is_coordinate, is_name}
+use Rattle.lawful_parts.specs.Tests.{int_le, is_name}
 
 -- two tests, both true exactly where both facts hold
 pub both : (a b : Bool) {P Q : Type 0} → (IsTrue a ↔ P) → (IsTrue b ↔ Q) → IsTrue (a && b) ↔ (P × Q)
@@ -29,16 +29,6 @@ none_test (Some x) = (λ h. absurd (false≢true h), λ h. cc)
 
 pub name_test : (name : List ℕ) → IsTrue (is_name name) ↔ IsName name
 name_test name = none_test (name_fault name)
-
-pub coordinate_test : (z : ℤ) → IsTrue (is_coordinate z) ↔ IsCoordinate z
-coordinate_test (pos n) = (
-  λ h. let low : n ≤ 2000000000 = grind (arith, nat_tests, h) in (omega (arith, ints), omega (arith, ints, low)),
-  λ h. let low : n ≤ 2000000000 = omega (arith, ints, h.1) in grind (arith, nat_tests, low),
-)
-coordinate_test (negsuc n) = (
-  λ h. let low : n < 2000000000 = grind (arith, nat_tests, h) in (omega (arith, ints, low), omega (arith, ints)),
-  λ h. let low : n < 2000000000 = omega (arith, ints, h.0) in grind (arith, nat_tests, low),
-)
 
 pub int_le_test : (a b : ℤ) → IsTrue (int_le a b) ↔ (a ≤ℤ b)
 int_le_test (pos a) (pos b) = (

@@ -2,6 +2,7 @@
 use Rattle.std.specs.Prelude.{◌==◌, ◌&&◌, ◌^◌, Bool, true, false, List, [], ◌∷◌, ℕ, ℤ, pos, negsuc, is_none, length, nat_le, nat_lt, not}
 use Rattle.std.specs.List.{list_all, list_any}
 use Rattle.std.specs.Str.{bytes_eq}
+use Rattle.odb_base.specs.Geometry.{is_coordinate}
 use Rattle.odb_base.specs.Name.{name_fault}
 use Rattle.odb_base.specs.declared.geometry.Rect.{Rect}
 use Rattle.odb_base.specs.declared.geometry.Shape.{Shape}
@@ -12,11 +13,6 @@ use Rattle.tech.specs.declared.via.TechVia.{TechVia}
 use Rattle.library.specs.declared.master.Master.{Master}
 use Rattle.library.specs.declared.mterm.MTerm.{MTerm}
 use Rattle.lawful_parts.specs.Lawful.{orient_of}
-
--- the number is within the limit of coordinates
-abbrev pub is_coordinate : ℤ → Bool
-is_coordinate (pos n) = nat_le n 2000000000
-is_coordinate (negsuc n) = nat_lt n 2000000000
 
 -- the name is lawful
 abbrev pub is_name : List ℕ → Bool

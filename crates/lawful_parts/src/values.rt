@@ -1,5 +1,6 @@
 ghost use Rattle.std.specs.Prelude.{◌≡◌, ◌^◌, length, nat_lt};
-ghost use Rattle.lawful_parts.specs.Tests.{is_coordinate, is_name as has_lawful_bytes};
+ghost use Rattle.odb_base.specs.Geometry.{is_coordinate};
+ghost use Rattle.lawful_parts.specs.Tests.{is_name as has_lawful_bytes};
 
 use odb_base::{COORDINATE_LIMIT, Name};
 

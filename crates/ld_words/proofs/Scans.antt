@@ -4,7 +4,8 @@ use Rattle.std.proofs.lemmas.Bool.{cases_Bool}
 use Rattle.std.proofs.lemmas.Bool.Decides.{nat_tests}
 use Rattle.std.specs.List.{list_all, position_or_len}
 use Rattle.ld_words.specs.declared.short_decimal.ShortDecimal.{ShortDecimal}
-use Rattle.ld_words.specs.Decimal.{digits_of, is_digit, is_point, lacks_digits, places_of, with_digit}
+use Rattle.odb_base.specs.Digits.{is_digit, with_digit}
+use Rattle.ld_words.specs.Decimal.{digits_of, is_point, lacks_digits, places_of}
 use Rattle.ld_words.specs.Scan.{decimal, decimal_in, scan}
 
 -- digits behind the point

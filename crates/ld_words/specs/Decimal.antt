@@ -1,12 +1,9 @@
 -- Which words are decimals, and what they are in database units.
 use Rattle.std.specs.Prelude.{◌+◌, ◌-◌, ◌*◌, ◌/◌, ◌^◌, ◌==◌, ◌&&◌, ◌||◌, ◌++◌, ℤ, pos, neg_ℤ, Bool, true, List, ℕ, Option, Some, None, Result, Ok, Err, if◌then◌else◌, drop, fold, length, nat_le, slice_index}
 use Rattle.std.specs.List.{after_first, before_first, list_all}
+use Rattle.odb_base.specs.Digits.{is_digit, is_negative, number_of, with_digits}
 use Rattle.ld_words.specs.declared.decimal.NumberFault.{NumberFault}
 use Rattle.ld_words.specs.declared.decimal.NumberFault.TheVariants as fault
-
--- a minus sign in front
-abbrev pub is_negative : List ℕ → Bool
-is_negative word = slice_index word 0 == 45
 
 -- a minus or plus sign in front
 abbrev pub has_sign : List ℕ → Bool
@@ -15,9 +12,6 @@ has_sign word = is_negative word || slice_index word 0 == 43
 -- the word without its sign
 abbrev pub unsigned : List ℕ → List ℕ
 unsigned word = if has_sign word then drop 1 word else word
-
-abbrev pub is_digit : ℕ → Bool
-is_digit b = nat_le 48 b && nat_le b 57
 
 abbrev pub is_point : ℕ → Bool
 is_point b = b == 46
@@ -34,14 +28,6 @@ places_of text = length (after_first is_point text)
 abbrev pub lacks_digits : Option ℕ → ℕ → Bool
 lacks_digits None size = true
 lacks_digits (Some first) size = size == 1 && is_point first
-
--- a number with one more digit
-abbrev pub with_digit : ℕ → ℕ → ℕ
-with_digit number digit = number * 10 + (digit - 48)
-
--- digits as one whole number
-abbrev pub number_of : List ℕ → ℕ
-number_of digits = fold with_digit 0 digits
 
 -- 1 to 30 digits, with at most one point among or around them
 abbrev pub is_decimal : List ℕ → Bool
@@ -80,11 +66,7 @@ magnitude_in per_micron text =
     then (if nat_le (magnitude_of per_micron text) 2000000000 then Ok (magnitude_of per_micron text) else Err fault.OutOfRange)
     else Err fault.NotNumber
 
--- the number with these digits behind its own, where they are digits
-abbrev pub number_with : ℕ → List ℕ → Option ℕ
-number_with number digits = if list_all is_digit digits then Some (fold with_digit number digits) else None
-
 -- the number that 1 to 30 digits are
 abbrev pub whole_of : List ℕ → Option ℕ
 whole_of digits =
-    if nat_le 1 (length digits) && nat_le (length digits) 30 then number_with 0 digits else None
+    if nat_le 1 (length digits) && nat_le (length digits) 30 then with_digits 0 digits else None

@@ -1,7 +1,8 @@
 -- A decimal without a sign that is read in one pass.
 use Rattle.std.specs.Prelude.{◌+◌, ◌^◌, ◌<◌, ◌≤◌, ◌&&◌, Bool, true, List, [], ◌∷◌, ℕ, Option, Some, None, if◌then◌else◌, not}
 use Rattle.ld_words.specs.declared.short_decimal.ShortDecimal.{ShortDecimal}
-use Rattle.ld_words.specs.Decimal.{is_decimal, is_digit, is_point, digits_of, number_of, places_of, with_digit}
+use Rattle.odb_base.specs.Digits.{is_digit, number_of, with_digit}
+use Rattle.ld_words.specs.Decimal.{is_decimal, is_point, digits_of, places_of}
 
 -- so few digits that products with units fit 64 bits
 pub record IsShort (d : ShortDecimal) : Type 0 where

@@ -1,8 +1,9 @@
 ghost use Rattle.std.specs.Prelude.{◌≡◌, ◌+◌, ◌*◌, ◌^◌, ◌<◌, ◌≤◌, ◌++◌, None, Some, IfSome, if◌then◌else◌, length, nat_le, position};
 ghost use Rattle.std.specs.List.{after_first, before_first};
-ghost use Rattle.ld_words.specs.Decimal.{has_sign, is_decimal, is_digit, is_negative, is_point, magnitude_in, number_with, rounded, signed, units_of, unsigned, whole_of};
+ghost use Rattle.ld_words.specs.Decimal.{has_sign, is_decimal, is_point, magnitude_in, rounded, signed, units_of, unsigned, whole_of};
 
 use crate::short_decimal::{SHORT_LIMIT, ShortDecimal, UNITS_LIMIT};
+use odb_base::{is_negative, with_digits};
 use thiserror::Error;
 
 /// The greatest coordinate; its negative is the least one.
@@ -36,7 +37,7 @@ pub fn to_units(word: &[u8], per_micron: u32) -> Result<i64, NumberFault>
     ensures { result ≡ units_of per_micron word.now }
 {
     let magnitude = magnitude(without_sign(word), per_micron)?;
-    Ok(with_sign(starts_negative(word), magnitude))
+    Ok(with_sign(is_negative(word), magnitude))
 }
 
 /// Whether the word is a decimal, of whatever size.
@@ -88,15 +89,6 @@ fn coordinate(magnitude: u64) -> Result<u64, NumberFault>
     }
 }
 
-fn starts_negative(word: &[u8]) -> bool
-    ensures { result ≡ is_negative word.now }
-{
-    match word.first() {
-        Some(first) => *first == b'-',
-        None => false,
-    }
-}
-
 fn starts_with_sign(word: &[u8]) -> bool
     ensures { result ≡ has_sign word.now }
 {
@@ -133,12 +125,6 @@ fn around_point(text: &[u8]) -> (&[u8], &[u8])
     }
 }
 
-pub fn is_decimal_digit(byte: u8) -> bool
-    ensures { result ≡ is_digit byte }
-{
-    byte >= b'0' && byte <= b'9'
-}
-
 /// The digits of both parts as one number, where they are 1 to [`DIGIT_LIMIT`] digits.
 fn whole_number(front: &[u8], back: &[u8]) -> Option<u128>
     ensures value { result ≡ whole_of (front.now ++ back.now) }
@@ -149,22 +135,6 @@ fn whole_number(front: &[u8], back: &[u8]) -> Option<u128>
         return None;
     }
     with_digits(with_digits(0, front)?, back)
-}
-
-/// The number with these digits behind its own, if they are digits.
-fn with_digits(mut number: u128, mut digits: &[u8]) -> Option<u128>
-    requires { (number + 1) * 10 ^ length digits.now ≤ 10 ^ 30 }
-    ensures value { result ≡ number_with number digits.now }
-    ensures bound { IfSome result (λ n. n + 1 ≤ (number + 1) * 10 ^ length digits.now) }
-{
-    'digits: while let [first, rest @ ..] = digits {
-        if !is_decimal_digit(*first) {
-            return None;
-        }
-        number = number * 10 + (*first - b'0') as u128;
-        digits = rest;
-    }
-    Some(number)
 }
 
 fn power_of_ten(exponent: usize) -> u128

@@ -1,8 +1,8 @@
 ghost use Rattle.std.specs.Prelude.{◌≡◌, ◌+◌, ◌*◌, ◌^◌, ◌<◌, ◌≤◌, false, IfSome, if◌then◌else◌, length, slice_get};
 ghost use Rattle.ld_words.specs.Decimal.{lacks_digits, rounded};
 
-use crate::decimal::is_decimal_digit;
 use crate::scan::one_if;
+use odb_base::is_digit;
 
 /// The greatest number of bytes of a short decimal, whose products with units fit 64 bits.
 pub const SHORT_LIMIT: usize = 13;
@@ -43,7 +43,7 @@ impl ShortDecimal {
         let mut places = 0;
         let mut point = false;
         'bytes: while let [byte, others @ ..] = rest {
-            if is_decimal_digit(*byte) {
+            if is_digit(*byte) {
                 number = number * 10 + (*byte - b'0') as u64;
                 places += one_if(point);
             } else if !point && *byte == b'.' {

@@ -8,7 +8,8 @@ use Rattle.std.proofs.lemmas.Bool.{cases_Bool, leb-true}
 use Rattle.std.proofs.lemmas.Int.{to_z-of_z}
 use Rattle.ld_words.specs.declared.decimal.NumberFault.{NumberFault}
 use Rattle.ld_words.specs.declared.decimal.NumberFault.TheVariants as fault
-use Rattle.ld_words.specs.Decimal.{coordinate, is_decimal, is_negative, magnitude_of, signed, units_of, unsigned}
+use Rattle.odb_base.specs.Digits.{is_negative}
+use Rattle.ld_words.specs.Decimal.{coordinate, is_decimal, magnitude_of, signed, units_of, unsigned}
 
 -- a number with its sign
 signed_fits : (negative : Bool) (n : ℕ) → n ≤ 2000000000 → SFits w32 (signed negative n)

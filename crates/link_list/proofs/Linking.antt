@@ -47,15 +47,19 @@ module _ (cell : ℕ → Bool) (link : ℕ → Link) where
   linked_back b [] ys n h = h
   linked_back b (x ∷ xs) ys n h = linked_back x xs ys n h.2
 
+module _ (cell cell' : ℕ → Bool) (link link' : ℕ → Link) where
+  -- a run whose members are cells still, with the links that they had
+  pub linked_stays : (b : ℕ) (ids : List ℕ) (n : ℕ) → AreLinked cell link b ids n → ((k : ℕ) → holds ids k ≡ true → (cell' k ≡ true) × (link' k ≡ link k)) → AreLinked cell' link' b ids n
+  linked_stays b [] n h kept = tt
+  linked_stays b (x ∷ xs) n h kept =
+      let here = kept x (holds_first x xs) in
+      (here.0, here.1 ∙ h.1, linked_stays x xs n h.2 (λ k inside. kept k (holds_later x xs k inside)))
+
 module _ (cell cell' : ℕ → Bool) (link link' : ℕ → Link) (same : (k : ℕ) → cell' k ≡ cell k) where
   -- a run whose links are as they were
   pub linked_kept : (b : ℕ) (ids : List ℕ) (n : ℕ) → AreLinked cell link b ids n → ((k : ℕ) → holds ids k ≡ true → link' k ≡ link k) → AreLinked cell' link' b ids n
-  linked_kept b [] n h others = tt
-  linked_kept b (x ∷ xs) n h others = (
-    same x ∙ h.0,
-    others x (holds_first x xs) ∙ h.1,
-    linked_kept x xs n h.2 (λ k inside. others k (holds_later x xs k inside)),
-  )
+  linked_kept b ids n h others =
+      linked_stays cell cell' link link' b ids n h (λ k inside. (same k ∙ member_is_cell cell link b ids n k h inside, others k inside))
 
   -- a run whose first member has another before it
   pub linked_first : (b b' : ℕ) (ids : List ℕ) (n : ℕ) → AreLinked cell link b ids n → IsDistinct ids → ((k : ℕ) → holds ids k ≡ true → k ≢ number (first ids) → link' k ≡ link k) → ((k : ℕ) → holds ids k ≡ true → k ≡ number (first ids) → link' k ≡ record { before = b'; after = (link k).after }) → AreLinked cell' link' b' ids n

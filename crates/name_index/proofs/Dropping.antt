@@ -2,7 +2,7 @@
 use Rattle.std.proofs.Common.{◌≡◌, ◌≢◌, ◌-◌, ◌<◌, Bool, true, false, cond, eqb, List, [], ◌∷◌, ℕ, Some, length, set, refl, sym, ap, ◌∙◌, inl, inr, arith}
 use Rattle.std.specs.FinMap.{get, remove}
 use Rattle.std.specs.Prelude.{slice_index}
-use Rattle.std.proofs.lemmas.Bool.{cases_Bool, cases_eq, eq-eqb, eqb-true, ne_eqb, false≢true, false_from_ne_true, or_cases, or_left, or_parts, or_right}
+use Rattle.std.proofs.lemmas.Bool.{cases_Bool, cases_eq, eq-eqb, eqb-true, false≢true, or_left, or_parts, or_right}
 use Rattle.name_index.specs.Chain.{AreCells, IsChain, ids_from, prior_in, prior_of}
 use Rattle.odb_base.specs.Ids.{IsDistinct, holds, without}
 use Rattle.name_index.specs.Hash.{bucket_at}
@@ -10,47 +10,8 @@ use Rattle.name_index.specs.Index.{Index, Stands}
 use Rattle.name_index.specs.Names.{Names}
 use Rattle.name_index.proofs.Buckets.{at_other, at_same, chain_cells, chain_kept}
 use Rattle.odb_base.proofs.Ids.{member_differs}
+use Rattle.odb_base.proofs.Members.{distinct_without, holds_without, holds_without_other, holds_without_same}
 use Rattle.name_index.proofs.Maps.{cases_name, get-remove_other, get-remove_same, len-remove_some, not_None, same_Some}
-
--- who is in a list without an identifier
-holds-without : (id : ℕ) (ids : List ℕ) (k : ℕ) → holds (without id ids) k ≡ true → holds ids k ≡ true
-holds-without id [] k inside = inside
-holds-without id (x ∷ xs) k inside = elim (cases_Bool (eqb x id)) [
-  | inl e ↦ or_right (eqb x k) (holds xs k) (rw e at inside)
-  | inr e ↦ elim (or_cases (eqb x k) (holds (without id xs) k) (rw e at inside)) [
-    | inl here ↦ or_left (eqb x k) (holds xs k) here
-    | inr there ↦ or_right (eqb x k) (holds xs k) (holds-without id xs k there)
-  ]
-]
-
-holds-without_other : (id : ℕ) (ids : List ℕ) (k : ℕ) → k ≢ id → holds ids k ≡ true → holds (without id ids) k ≡ true
-holds-without_other id [] k ne inside = inside
-holds-without_other id (x ∷ xs) k ne inside = elim (cases_Bool (eqb x id)) [
-  | inl e ↦
-      let other : x ≢ k = λ same. ne (sym same ∙ eqb-true x id e) in
-      rw e (rw (ne_eqb x k other) at inside)
-  | inr e ↦ rw e (elim (or_cases (eqb x k) (holds xs k) inside) [
-    | inl here ↦ or_left (eqb x k) (holds (without id xs) k) here
-    | inr there ↦ or_right (eqb x k) (holds (without id xs) k) (holds-without_other id xs k ne there)
-  ])
-]
-
-holds-without_same : (id : ℕ) (ids : List ℕ) → IsDistinct ids → holds (without id ids) id ≡ false
-holds-without_same id [] distinct = refl
-holds-without_same id (x ∷ xs) distinct = elim (cases_Bool (eqb x id)) [
-  | inl e ↦ rw e (rw (eqb-true x id e) at distinct.0)
-  | inr e ↦ rw (e, e) (holds-without_same id xs distinct.1)
-]
-
-distinct-without : (id : ℕ) (ids : List ℕ) → IsDistinct ids → IsDistinct (without id ids)
-distinct-without id [] distinct = tt
-distinct-without id (x ∷ xs) distinct = elim (cases_Bool (eqb x id)) [
-  | inl e ↦ rw e distinct.1
-  | inr e ↦ rw e (
-    false_from_ne_true (holds (without id xs) x) (λ inside. false≢true (sym distinct.0 ∙ holds-without id xs x inside)),
-    distinct-without id xs distinct.1,
-  )
-]
 
 prior_in-same : (p x : ℕ) (xs : List ℕ) (id : ℕ) → eqb x id ≡ true → prior_in p (x ∷ xs) id ≡ p
 prior_in-same p x xs id e = rw e refl
@@ -148,7 +109,7 @@ module _ (cell cell' : ℕ → Bool) (name name' : ℕ → List ℕ) (chain chai
 
   distinct' : (k : ℕ) → IsDistinct (chains' k)
   distinct' k = elim (cases_Bool (eqb k at)) [
-    | inl e ↦ rw e (distinct-without id (stands.chains k) (stands.distinct k))
+    | inl e ↦ rw e (distinct_without id (stands.chains k) (stands.distinct k))
     | inr e ↦ rw e (stands.distinct k)
   ]
 
@@ -157,8 +118,8 @@ module _ (cell cell' : ℕ → Bool) (name name' : ℕ → List ℕ) (chain chai
   left_in k j inside = elim (cases_eq k at) [
     | inl e ↦
         let h : holds (without id (stands.chains k)) j ≡ true = ap (λ l. holds l j) (sym (at_same k at (without id (stands.chains k)) (stands.chains k) e)) ∙ inside in (
-          holds-without id (stands.chains k) j h,
-          member_differs (without id (stands.chains k)) j id h (holds-without_same id (stands.chains k) (stands.distinct k)),
+          holds_without id (stands.chains k) j h,
+          member_differs (without id (stands.chains k)) j id h (holds_without_same id (stands.chains k) (stands.distinct k)),
         )
     | inr ne ↦
         let h : holds (stands.chains k) j ≡ true = ap (λ l. holds l j) (sym (at_other k at (without id (stands.chains k)) (stands.chains k) ne)) ∙ inside in
@@ -178,7 +139,7 @@ module _ (cell cell' : ℕ → Bool) (name name' : ℕ → List ℕ) (chain chai
 
   in_bucket : (k j : ℕ) → j ≢ id → holds (stands.chains k) j ≡ true → holds (chains' k) j ≡ true
   in_bucket k j ne inside = elim (cases_Bool (eqb k at)) [
-    | inl e ↦ rw e (holds-without_other id (stands.chains k) j ne inside)
+    | inl e ↦ rw e (holds_without_other id (stands.chains k) j ne inside)
     | inr e ↦ rw e inside
   ]
 

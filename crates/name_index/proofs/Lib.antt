@@ -2,6 +2,7 @@ pub mod Buckets
 pub mod Chains
 pub mod Dropping
 pub mod Effects
+pub mod Frames
 pub mod Gathering
 pub mod Keeping
 pub mod Maps

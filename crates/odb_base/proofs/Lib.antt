@@ -1,6 +1,9 @@
+pub mod Coordinates
 pub mod Decimals
 pub mod Distinct
 pub mod Finding
 pub mod Ids
+pub mod KindCodes
+pub mod Members
 pub mod Names
 pub mod Splits

@@ -1,5 +1,5 @@
 -- Directions of terminals: their codes and words.
-use Rattle.std.specs.Prelude.{List, [], ◌∷◌, ℕ, codes}
+use Rattle.std.specs.Prelude.{Bool, true, false, List, [], ◌∷◌, ℕ, codes}
 use Rattle.odb_base.specs.declared.codes.direction.Direction.{Direction}
 use Rattle.odb_base.specs.declared.codes.direction.Direction.TheVariants as direction
 
@@ -24,3 +24,8 @@ direction_word direction.Output = codes "OUTPUT"
 direction_word direction.Tristate = codes "TRISTATE"
 direction_word direction.Inout = codes "INOUT"
 direction_word direction.Feedthru = codes "FEEDTHRU"
+
+-- a terminal of the block may have the direction
+abbrev pub is_bterm_direction : Direction → Bool
+is_bterm_direction direction.Tristate = false
+is_bterm_direction other = true

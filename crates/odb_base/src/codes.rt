@@ -2,6 +2,8 @@ ghost use Rattle.std.specs.Prelude.{◌≡◌, ◌==◌, List, ℕ};
 ghost use Rattle.std.specs.List.{find};
 ghost use Rattle.std.specs.Str.{bytes_eq};
 
+use crate::sameness::same_bytes;
+
 pub mod direction;
 pub mod kind;
 pub mod layer_direction;
@@ -58,7 +60,7 @@ pub trait Worded: Copy + 'static {
         ensures { result ≡ find (λ value. bytes_eq (word_of value) word.now) values.now }
     {
         for value in values {
-            if value.word() == word {
+            if same_bytes(value.word(), word) {
                 return Some(*value);
             }
         }

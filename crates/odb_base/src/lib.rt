@@ -16,6 +16,7 @@ pub mod id;
 pub mod list;
 pub mod name;
 mod putting;
+pub mod sameness;
 pub mod steps;
 pub mod text;
 pub mod wire_code;
@@ -45,6 +46,7 @@ pub use id::{
 pub use list::List;
 pub use name::{Name, NameFault, name_fault};
 pub use putting::put_in;
+pub use sameness::same_bytes;
 pub use steps::Steps;
 pub use text::Text;
 pub use wire_code::WireCode;

@@ -49,6 +49,13 @@ impl<T> List<T> {
         &self.items
     }
 
+    /// Gives back the memory in which no item stands.
+    pub fn shrink(&mut self)
+        ensures { self.new ≡ self.old }
+    {
+        self.items.shrink_to_fit();
+    }
+
     /// Puts an item last. A refusal leaves the list as it was.
     pub fn push(&mut self, item: T) -> Result<(), AllocError>
     where

@@ -3,6 +3,7 @@ ghost use Rattle.std.specs.List.{list_any};
 ghost use Rattle.std.specs.Str.{bytes_eq};
 ghost use Rattle.odb_base.specs.Name.{IsName, bad_place, begins_badly, is_name_byte, is_reserved, marks, wiring_words, name_fault as first_fault};
 
+use crate::sameness::same_bytes;
 use std::alloc::{AllocError, Global};
 use std::marker::Model;
 
@@ -102,28 +103,26 @@ fn is_reserved_word(bytes: &[u8]) -> bool
 fn is_mark(bytes: &[u8]) -> bool
     ensures { result ≡ list_any (bytes_eq bytes.now) marks }
 {
-    is(bytes, b";") || is(bytes, b"(") || is(bytes, b")") || is(bytes, b"+") || is(bytes, b"-")
+    same_bytes(bytes, b";")
+        || same_bytes(bytes, b"(")
+        || same_bytes(bytes, b")")
+        || same_bytes(bytes, b"+")
+        || same_bytes(bytes, b"-")
 }
 
 fn is_wiring_word(bytes: &[u8]) -> bool
     ensures { result ≡ list_any (bytes_eq bytes.now) wiring_words }
 {
-    is(bytes, b"PIN")
-        || is(bytes, b"NEW")
-        || is(bytes, b"MUSTJOIN")
-        || is(bytes, b"TAPER")
-        || is(bytes, b"TAPERRULE")
-        || is(bytes, b"STYLE")
-        || is(bytes, b"MASK")
-        || is(bytes, b"RECT")
-        || is(bytes, b"VIRTUAL")
-        || is(bytes, b"DO")
-}
-
-fn is(bytes: &[u8], word: &[u8]) -> bool
-    ensures { result ≡ bytes_eq bytes.now word.now }
-{
-    bytes == word
+    same_bytes(bytes, b"PIN")
+        || same_bytes(bytes, b"NEW")
+        || same_bytes(bytes, b"MUSTJOIN")
+        || same_bytes(bytes, b"TAPER")
+        || same_bytes(bytes, b"TAPERRULE")
+        || same_bytes(bytes, b"STYLE")
+        || same_bytes(bytes, b"MASK")
+        || same_bytes(bytes, b"RECT")
+        || same_bytes(bytes, b"VIRTUAL")
+        || same_bytes(bytes, b"DO")
 }
 
 impl Name {

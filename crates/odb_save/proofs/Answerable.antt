@@ -13,7 +13,8 @@ use Rattle.block_store.specs.Database.{IsSoundDatabase}
 use Rattle.block_tables.specs.Places.{IsFirstFault, IsLeastInKind}
 use Rattle.block_tables.specs.Rules.{IsSoundHeader, IsSoundKind, IsSoundRecord, IsSoundTable}
 use Rattle.block_tables.proofs.Beyond.{at_zero, past_slots}
-use Rattle.block_tables.proofs.KindOrder.{code_of_item, codes_within, same_kind}
+use Rattle.odb_base.proofs.KindCodes.{codes_within, same_kind}
+use Rattle.block_tables.proofs.KindOrder.{code_of_item}
 use Rattle.block_tables.proofs.Parts.{sound_by_parts}
 use Rattle.saved_reader.specs.declared.saved.Saved.{Saved}
 use Rattle.saved_fields.specs.Fault as read

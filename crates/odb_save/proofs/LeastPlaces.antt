@@ -8,7 +8,7 @@ use Rattle.tech.specs.Technology.{Technology}
 use Rattle.block_store.specs.Block.{Block}
 use Rattle.block_tables.specs.Places.{IsFirstFault, IsLeastInKind}
 use Rattle.block_tables.specs.Rules.{IsSoundKind}
-use Rattle.block_tables.proofs.KindOrder.{same_kind}
+use Rattle.odb_base.proofs.KindCodes.{same_kind}
 use Rattle.saved_reader.specs.declared.saved.Saved.{Saved}
 use Rattle.odb_save.specs.Loading.{IsLeastUnsound}
 

@@ -8,7 +8,7 @@ use Rattle.std.proofs.lemmas.Bool.{cases_Bool, cases_eq, eqb-true, le-leb, or_ri
 use Rattle.std.proofs.lemmas.Bool.Decides.{nat_tests}
 use Rattle.std.proofs.lemmas.Int.{fits_signed_from_abs, ints}
 use Rattle.std.proofs.lemmas.Option.{get_or_from_slice_get, slice_get_within}
-use Rattle.odb_base.specs.Geometry.{IsCoordinate, IsRect}
+use Rattle.odb_base.specs.Geometry.{IsCoordinate, IsRect, is_coordinate}
 use Rattle.odb_base.specs.Ids.{holds}
 use Rattle.odb_base.specs.Name.{IsName, name_fault}
 use Rattle.odb_base.specs.declared.codes.direction.Direction.{Direction}
@@ -35,7 +35,7 @@ use Rattle.block_store.specs.declared.entry.InstEntry.{InstEntry}
 use Rattle.block_store.specs.declared.entry.NetEntry.{NetEntry}
 use Rattle.block_store.specs.Database.{Database, IsSoundDatabase}
 use Rattle.lawful_parts.specs.Lawful.{AreShapes, IsLayer, IsLibrary, IsMTerm, IsMaster, IsShape, IsSite, IsTechVia, IsTechnology}
-use Rattle.lawful_parts.specs.Tests.{int_le, is_coordinate}
+use Rattle.lawful_parts.specs.Tests.{int_le}
 use Rattle.lawful_parts.proofs.TestLemmas.{int_le_test}
 use Rattle.tech.specs.Technology.{Technology}
 use Rattle.tech.specs.declared.layer.Layer.{Layer}
@@ -43,12 +43,11 @@ use Rattle.tech.specs.declared.site.Site.{Site}
 use Rattle.tech.specs.declared.via.TechVia.{TechVia}
 use Rattle.block_store.specs.Kinds.{table_of}
 use Rattle.block_store.specs.Lists.{bterm_number, iterm_number, list_in}
-use Rattle.block_store.specs.BlockTerminals.{IsBTermDirection}
 use Rattle.block_store.specs.Instances.{term_count}
 use Rattle.block_store.specs.Placements.{IsPlacement, unplaced}
 use Rattle.block_store.specs.Sound.{IsSound, bterm_net, inst_terms, iterm_net, iterm_place, net_terms}
 use Rattle.block_store.specs.Tables.{AreEach, IsTable}
-use Rattle.block_store.specs.View.{laws}
+use Rattle.block_store.specs.View.{is_built, laws}
 use Rattle.block_store.proofs.TableLemmas.{none_in_empty}
 use Rattle.block_store.proofs.Held.{times_held}
 use Rattle.block_store.proofs.Joined.{bterm_inside, bterms_held, iterm_inside, iterms_held, net_of_member, number_is, shown_by, terms_distinct, terms_placed}
@@ -63,7 +62,6 @@ use Rattle.block_store.specs.Rows.{IsRepeated, IsSiteCount}
 use Rattle.saved_fields.specs.Sites.{may_step}
 use Rattle.saved_fields.specs.Fields as field
 use Rattle.saved_fields.specs.Parts.{may_have}
-use Rattle.saved_reader.specs.Built.{is_built}
 use Rattle.odb_save.specs.Kinds.{saved_as}
 use Rattle.odb_save.specs.Spelled.{spelled}
 use Rattle.slot_pool.proofs.Counted.{fewer_free}
@@ -71,7 +69,7 @@ use Rattle.saved_reader.specs.Fits.{IsShort}
 use Rattle.saved_reader.specs.Header.{header_format}
 use Rattle.saved_fields.specs.Lawful.{IsDistance, IsId, IsList, IsNameText, IsNumber, IsOption, IsPlacementFields, IsRectFields, IsSites, IsSmall, IsTableOf, IsTerm, IsText}
 use Rattle.saved_reader.specs.Library.{extent_field, extent_of, library_format, master_format, mterm_format}
-use Rattle.saved_reader.specs.Objects.{block_direction_field, bterm_format, inst_format, is_of_block, iterm_format, net_format}
+use Rattle.saved_reader.specs.Objects.{block_direction_field, bterm_format, inst_format, iterm_format, net_format}
 use Rattle.saved_fields.specs.PartFormats.{shape_format}
 use Rattle.saved_reader.specs.Physical.{row_format}
 use Rattle.saved_reader.specs.Saved.{block_format, block_parts, built_format, others_format}
@@ -295,14 +293,6 @@ none_in : (i x : ℕ) → slice_get [] i ≡ Some x → ⊥
 none_in zero x at = cc
 none_in (suc i) x at = cc
 
-block_direction : (d : Direction) → IsBTermDirection d → (is_of_block d ≡ true) × Unit {0}
-block_direction direction.None h = (refl, tt)
-block_direction direction.Input h = (refl, tt)
-block_direction direction.Output h = (refl, tt)
-block_direction direction.Tristate h = absurd h
-block_direction direction.Inout h = (refl, tt)
-block_direction direction.Feedthru h = (refl, tt)
-
 -- a step of 0
 no_step : (f : RowForm) (z : ℤ) → IsCoordinate z → may_step f (pos 0) ≡ true → z ≡ pos 0 → IsDistance (may_step f) z
 no_step f z within may none = (ap (may_step f) none ∙ may, (coordinate_is z within).1)
@@ -447,7 +437,7 @@ module _ (d : Database) (sound : IsSoundDatabase d) where
         | inl none ↦ omega (arith, none)
         | inr some ↦ net_id e.fields.net (bterm_number id) (bterm_inside d.tech d.library d.cap d.block sound.block id e.fields.net (omega (arith, some)) joined)
       ] in
-      (((((name_text e.fields.name is.name, net), block_direction e.fields.direction is.direction), tt), no_ids e.pins is.pins), no_text e.fields.kept is.kept)
+      (((((name_text e.fields.name is.name, net), (is.direction, tt)), tt), no_ids e.pins is.pins), no_text e.fields.kept is.kept)
 
   row_fields : AreEach row_format.Has d.block.row
   unfolding row_format

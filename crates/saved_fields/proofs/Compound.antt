@@ -1,6 +1,7 @@
 -- Codecs of placements, rectangles, what isn't there yet, and tables.
 use Rattle.std.proofs.Common.{Bool, ◌≡◌, ◌<◌, ◌^◌, false, eqb, ltb, ℕ, ℤ, List, Option, Some, None, Ok, refl, sym, ap, ◌∙◌, arith, inl, inr}
 use Rattle.std.proofs.lemmas.Bool.{cases_Bool, eqb-true, le-ltb}
+use Rattle.odb_base.specs.Geometry.{is_coordinate}
 use Rattle.odb_base.specs.Orient.{orient_code, orients}
 use Rattle.odb_base.specs.PlaceStatus.{place_status_code, place_statuses}
 use Rattle.odb_base.specs.declared.codes.kind.Kind.{Kind}
@@ -13,7 +14,6 @@ use Rattle.odb_fields.specs.Fields.{i32_bytes, u32_bytes, u8_bytes}
 use Rattle.odb_fields.specs.Reading.{Cursor, u32_at, u8_at, ◌>>=◌}
 use Rattle.odb_fields.proofs.Inputs.{bind_ok}
 use Rattle.slot_pool.specs.Table.{Table}
-use Rattle.lawful_parts.specs.Tests.{is_coordinate}
 use Rattle.saved_fields.specs.Bytes.{option_bytes, place_bytes, rect_bytes, table_bytes}
 use Rattle.saved_fields.specs.Fields.{coded_at, distance_at, id_at, is_from}
 use Rattle.saved_fields.specs.Parts.{absent_at, free_count_at, may_be_turned, may_have, may_stand, none_if_0, option_at, place_at, placement_of, rect_at, rect_of, slot_count_at, table_at, table_of, turn_at, within_cap}

@@ -1,5 +1,6 @@
 -- Formats whose reading and bytes are each the way back of the other: those of fields, and how they are put together.
 use Rattle.std.proofs.Common.{◌≡◌, Bool, ℕ, ℤ, List, refl}
+use Rattle.odb_base.specs.Geometry.{is_coordinate}
 use Rattle.odb_base.specs.Direction.{direction_code, directions}
 use Rattle.odb_base.specs.LayerDirection.{layer_direction_code, layer_directions}
 use Rattle.odb_base.specs.LayerType.{layer_type_code, layer_types}
@@ -10,7 +11,6 @@ use Rattle.odb_base.specs.TrackAxis.{track_axes, track_axis_code}
 use Rattle.odb_base.specs.Usage.{usage_code, usages}
 use Rattle.odb_base.specs.WireStatus.{wire_status_code, wire_statuses}
 use Rattle.odb_base.specs.declared.codes.kind.Kind.{Kind}
-use Rattle.lawful_parts.specs.Tests.{is_coordinate}
 use Rattle.saved_fields.specs.FieldFormats.{any_text_field, coded_field, coordinate_field, direction_field, distance_field, flag_field, id_field, layer_direction_field, layer_type_field, name_field, no_text_field, number_field, orient_field, region_type_field, site_class_field, small_field, text_field, track_axis_field, usage_field, wire_status_field, word_field}
 use Rattle.saved_fields.specs.Format.{Format, fields, filled_list, list, passing, ◌&◌}
 use Rattle.saved_fields.specs.PartFormats.{absent_field, ids_field, no_ids_field, no_list_field, place_field, rect_field, shape_format, shape_of, shapes_field, table_field, term_field}

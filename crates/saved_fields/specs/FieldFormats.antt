@@ -1,5 +1,6 @@
 -- The formats of single fields.
 use Rattle.std.specs.Prelude.{Bool, List, ℕ, ℤ}
+use Rattle.odb_base.specs.Geometry.{is_coordinate}
 use Rattle.odb_base.specs.Direction.{direction_code, directions}
 use Rattle.odb_base.specs.LayerDirection.{layer_direction_code, layer_directions}
 use Rattle.odb_base.specs.LayerType.{layer_type_code, layer_types}
@@ -19,7 +20,6 @@ use Rattle.odb_base.specs.declared.codes.track_axis.TrackAxis.{TrackAxis}
 use Rattle.odb_base.specs.declared.codes.usage.Usage.{Usage}
 use Rattle.odb_base.specs.declared.codes.wire_status.WireStatus.{WireStatus}
 use Rattle.odb_fields.specs.Fields.{i32_bytes, text_bytes, u8_bytes, u32_bytes}
-use Rattle.lawful_parts.specs.Tests.{is_coordinate}
 use Rattle.saved_fields.specs.Bytes.{flag_bytes}
 use Rattle.saved_fields.specs.Fields.{coded_at, distance_at, flag_at, id_at, name_at, number_at, small_at, text_at, word_at}
 use Rattle.saved_fields.specs.Format.{Format}

@@ -2,9 +2,9 @@
 use Rattle.std.specs.Prelude.{◌==◌, ◌&&◌, Bool, true, false, List, ℕ, ℤ, pos, negsuc, Option, Some, None, if◌then◌else◌, is_none, length, nat_le}
 use Rattle.std.specs.List.{find}
 use Rattle.std.specs.Str.{bytes_eq}
+use Rattle.odb_base.specs.Geometry.{is_coordinate}
 use Rattle.odb_base.specs.Name.{name_fault}
 use Rattle.odb_fields.specs.Reading.{bytes_at, i32_at, u32_at, u8_at}
-use Rattle.lawful_parts.specs.Tests.{is_coordinate}
 use Rattle.saved_fields.specs.Reading.{Reading, judged, plain, ◌by◌}
 
 -- the value, where it passes

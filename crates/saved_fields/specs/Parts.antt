@@ -1,5 +1,6 @@
 -- The parts of which saved records are made: lists, what may be absent, places, rectangles and tables.
 use Rattle.std.specs.Prelude.{◌==◌, ◌+◌, ◌*◌, ◌||◌, Bool, true, false, List, [], ℕ, ℤ, pos, negsuc, Option, Some, None, Result, Ok, Err, if◌then◌else◌, nat_lt}
+use Rattle.odb_base.specs.Geometry.{is_coordinate}
 use Rattle.odb_base.specs.Kind.{kind_code, kinds}
 use Rattle.odb_base.specs.Orient.{orient_code, orients}
 use Rattle.odb_base.specs.PlaceStatus.{place_status_code, place_statuses}
@@ -11,7 +12,6 @@ use Rattle.odb_base.specs.declared.geometry.Placement.{Placement}
 use Rattle.odb_base.specs.declared.geometry.Rect.{Rect}
 use Rattle.odb_fields.specs.Reading.{Cursor, u32_at, u8_at, ◌>>=◌}
 use Rattle.slot_pool.specs.Table.{Table}
-use Rattle.lawful_parts.specs.Tests.{is_coordinate}
 use Rattle.saved_fields.specs.Fault as fault
 use Rattle.saved_fields.specs.Fault.{Fault}
 use Rattle.saved_fields.specs.Fields.{coded_at, coordinate_at, distance_at, flag_at, id_at, is_from, number_at, such}

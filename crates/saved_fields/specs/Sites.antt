@@ -1,11 +1,11 @@
 -- The sites of a row: their form, how many stand along each axis, and the steps along both.
 use Rattle.std.specs.Prelude.{◌==◌, ◌++◌, Bool, false, List, ℕ, ℤ, pos, negsuc}
+use Rattle.odb_base.specs.Geometry.{is_coordinate}
 use Rattle.odb_base.specs.RowForm.{row_form_code, row_forms}
 use Rattle.odb_base.specs.declared.codes.row_form.RowForm.{RowForm}
 use Rattle.odb_base.specs.declared.codes.row_form.RowForm.TheVariants as row_form
 use Rattle.block_records.specs.declared.row.RowRec.{RowRec}
 use Rattle.odb_fields.specs.Fields.{i32_bytes, u8_bytes, u32_bytes}
-use Rattle.lawful_parts.specs.Tests.{is_coordinate}
 use Rattle.saved_fields.specs.Fields.{coded_at, distance_at, number_at}
 use Rattle.saved_fields.specs.Reading.{Reading, ◌then◌}
 

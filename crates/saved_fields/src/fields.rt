@@ -1,5 +1,5 @@
 ghost use Rattle.std.specs.Prelude.{◌≡◌, ◌++◌, ◌<◌, ◌^◌, OnOk, length};
-ghost use Rattle.lawful_parts.specs.Tests.{is_coordinate};
+ghost use Rattle.odb_base.specs.Geometry.{is_coordinate};
 ghost use Rattle.odb_fields.specs.Fields.{i32_bytes};
 ghost use Rattle.odb_fields.specs.Putting.{KeepsVector, bytes_in};
 ghost use Rattle.saved_fields.specs.Bytes.{flag_bytes};

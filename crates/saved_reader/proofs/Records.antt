@@ -4,15 +4,16 @@ use Rattle.saved_fields.specs.Fields.{is_from}
 use Rattle.saved_reader.specs.Grouping.{group_format, group_of, prop_format, prop_of, region_fields, region_format, region_of}
 use Rattle.saved_reader.specs.Header.{definition_bytes, header_fields, header_format, header_of, via_bytes}
 use Rattle.saved_reader.specs.Library.{extent_field, library_format, master_fields, master_format, master_of, mterm_format, mterm_of}
-use Rattle.saved_reader.specs.Objects.{block_direction_field, bterm_fields, bterm_format, bterm_of, inst_fields, inst_format, inst_of, is_of_block, iterm_format, iterm_of, net_fields, net_format, net_of}
+use Rattle.saved_reader.specs.Objects.{block_direction_field, bterm_fields, bterm_format, bterm_of, inst_fields, inst_format, inst_of, iterm_format, iterm_of, net_fields, net_format, net_of}
 use Rattle.saved_fields.specs.PartFormats.{rect_field}
 use Rattle.saved_reader.specs.Physical.{blockage_format, blockage_of, pin_format, pin_of, row_fields, row_format, row_of, sites_field, track_format, track_of, wire_format, wire_of}
 use Rattle.saved_reader.specs.Saved.{block_format, block_of, block_parts, built_format, kind_table, others_format}
 use Rattle.saved_reader.specs.Technology.{is_no_orient, layer_fields, layer_format, layer_of, site_format, site_of, tech_format, technology_of, via_format, via_name_field, via_of}
+use Rattle.odb_base.specs.Direction.{is_bterm_direction}
 use Rattle.odb_base.specs.declared.codes.kind.Kind.{Kind}
 use Rattle.odb_base.specs.declared.codes.kind.Kind.TheVariants as kind
 use Rattle.saved_fields.specs.Format.{Format}
-use Rattle.saved_reader.specs.Built.{is_built}
+use Rattle.block_store.specs.View.{is_built}
 use Rattle.saved_fields.proofs.Formats.{IsFormat, absent_is, any_text_is, coordinate_is, direction_is, distance_is, fields_are, filled_list_is, flag_is, id_is, ids_are, layer_direction_is, layer_type_is, list_is, name_is, no_ids_are, no_list_is, no_text_is, number_is, orient_is, passing_is, place_is, rect_is, region_type_is, shapes_are, site_class_is, small_is, table_is, term_is, track_axis_is, usage_is, wire_status_is, word_is, ◌and◌}
 use Rattle.saved_fields.proofs.SitesCodec.{sites_codec}
 
@@ -34,7 +35,7 @@ net_is =
 
 block_direction_is : IsFormat block_direction_field
 unfolding block_direction_field
-block_direction_is = passing_is is_of_block direction_is
+block_direction_is = passing_is is_bterm_direction direction_is
 
 bterm_is : IsFormat bterm_format
 unfolding bterm_format

@@ -13,7 +13,7 @@ use Rattle.slot_pool.specs.Table.{Table}
 use Rattle.saved_fields.specs.declared.fault.ReadFault.{ReadFault}
 use Rattle.saved_reader.specs.declared.saved.Saved.{Saved}
 use Rattle.saved_fields.specs.Fields.{id_at, is_between, number_at, such}
-use Rattle.saved_reader.specs.Built.{is_built}
+use Rattle.block_store.specs.View.{is_built}
 use Rattle.saved_reader.specs.Grouping.{group_format, prop_format, region_format}
 use Rattle.saved_reader.specs.Header.{header_format}
 use Rattle.saved_reader.specs.Library.{library_format}

@@ -1,6 +1,7 @@
 -- The records of instances, nets and terminals, one table of fields for each kind. A field that names another object is its
 -- identifier, and 0 where there is none.
 use Rattle.std.specs.Prelude.{◌==◌, Bool, List, ℕ, not}
+use Rattle.odb_base.specs.Direction.{is_bterm_direction}
 use Rattle.odb_base.specs.Direction.{direction_code}
 use Rattle.odb_base.specs.declared.codes.direction.Direction.{Direction}
 use Rattle.odb_base.specs.declared.codes.usage.Usage.{Usage}
@@ -82,13 +83,9 @@ net_format = fields net_of net_fields (
 
 -- ---- terminals of the block
 
--- a direction that a block terminal may have
-abbrev pub is_of_block : Direction → Bool
-is_of_block direction = not (direction_code direction == 3)
-
 -- the direction of a block terminal
 unfoldable pub block_direction_field : Format Direction
-block_direction_field = passing is_of_block direction_field
+block_direction_field = passing is_bterm_direction direction_field
 
 abbrev pub BTermFields : Type 0
 BTermFields = ((((List ℕ × ℕ) × Direction) × Usage) × List ℕ) × List ℕ

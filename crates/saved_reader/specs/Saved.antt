@@ -27,7 +27,7 @@ use Rattle.saved_reader.specs.declared.saved.Saved.{Saved}
 use Rattle.saved_fields.specs.Fault as fault
 use Rattle.saved_fields.specs.Fault.{Fault}
 use Rattle.saved_fields.specs.Format.{Format, fields, ◌&◌}
-use Rattle.saved_reader.specs.Built.{is_built}
+use Rattle.block_store.specs.View.{is_built}
 use Rattle.saved_reader.specs.Grouping.{group_format, prop_format, region_format}
 use Rattle.saved_reader.specs.Header.{header_format}
 use Rattle.saved_reader.specs.Library.{library_format}

@@ -1,6 +1,6 @@
 ghost use Rattle.std.specs.Prelude.{◌≡◌};
 ghost use Rattle.saved_reader.specs.Entries.{bterm_entry, inst_entry, net_entry};
-ghost use Rattle.saved_reader.specs.Objects.{block_direction_field, bterm_format, inst_format, is_of_block, iterm_format, net_format};
+ghost use Rattle.saved_reader.specs.Objects.{block_direction_field, bterm_format, inst_format, iterm_format, net_format};
 ghost use Rattle.saved_fields.specs.Reading.{Reads};
 
 use crate::lists::{Spelled, get_ids, get_list, get_terms};
@@ -177,19 +177,10 @@ fn get_block_direction(input: &mut Get<'_>) -> Result<Direction, ReadFault>
     ensures { Reads result (block_direction_field.at input.old) input.new }
 {
     let at = input.place();
-    let direction = get_coded(input)?;
-    if may_stand_at_block(direction) {
+    let direction: Direction = get_coded(input)?;
+    if direction.fits_bterm() {
         Ok(direction)
     } else {
         Err(ReadFault::BadField { at })
-    }
-}
-
-fn may_stand_at_block(direction: Direction) -> bool
-    ensures { result ≡ is_of_block direction }
-{
-    match direction {
-        Direction::Tristate => false,
-        _ => true,
     }
 }

@@ -1,10 +1,11 @@
 ghost use Rattle.std.specs.Prelude.{◌≡◌};
 ghost use Rattle.saved_fields.specs.Parts.{free_count_at, may_have, slot_count_at, table_at};
 ghost use Rattle.saved_fields.specs.Reading.{Reads};
-ghost use Rattle.saved_reader.specs.Built.{is_built as may_have_objects};
+ghost use Rattle.block_store.specs.View.{is_built as may_have_objects};
 
 use crate::lists::{Spelled, get_many};
 use block_store::PlainTable;
+use block_store::values::is_built;
 use odb_base::Kind;
 use odb_fields::Get;
 use saved_fields::ReadFault;
@@ -63,20 +64,4 @@ fn may_count(kind: Kind, count: u32) -> bool
     ensures { result ≡ may_have (may_have_objects kind) count }
 {
     is_built(kind) || count == 0
-}
-
-// Whether objects of the kind are there. A table of the others is empty.
-fn is_built(kind: Kind) -> bool
-    ensures { result ≡ may_have_objects kind }
-{
-    match kind {
-        Kind::Inst | Kind::ITerm | Kind::Net | Kind::BTerm | Kind::Row => true,
-        Kind::Pin
-        | Kind::Track
-        | Kind::Wire
-        | Kind::Blockage
-        | Kind::Region
-        | Kind::Group
-        | Kind::Prop => false,
-    }
 }

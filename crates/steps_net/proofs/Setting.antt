@@ -3,6 +3,7 @@ use Rattle.std.proofs.Common.{◌≡◌, ◌≢◌, Bool, true, false, List, [],
 use Rattle.std.specs.Option.{option_map, unwrap_or}
 use Rattle.std.proofs.lemmas.Bool.{false≢true}
 use Rattle.slot_pool.specs.Table.{is_live}
+use Rattle.odb_base.specs.Direction.{is_bterm_direction}
 use Rattle.odb_base.specs.Name.{IsName}
 use Rattle.odb_base.specs.declared.codes.direction.Direction.{Direction}
 use Rattle.odb_base.specs.declared.codes.direction.Direction.TheVariants as direction
@@ -14,7 +15,6 @@ use Rattle.odb_base.specs.declared.geometry.Placement.{Placement}
 use Rattle.tech.specs.Technology.{Technology}
 use Rattle.library.specs.declared.master.Master.{Master}
 use Rattle.block_store.specs.Block.{Block, live_in}
-use Rattle.block_store.specs.BlockTerminals.{IsBTermDirection}
 use Rattle.block_store.specs.Fields.{direction_in, place_in, special_in, usage_in}
 use Rattle.block_store.specs.Kinds.{Entry, on_entry, table, table_of}
 use Rattle.block_store.specs.Lens.{Lens}
@@ -69,7 +69,7 @@ module _ (tech : Technology) (library : List Master) (cap : ℕ) (d : Block) whe
   sound_usage kind.BTerm id usage sound can = sound_field tech library cap d BTermUsage usage id tt sound
   sound_usage other id usage sound can = absurd (false≢true can.kind)
 
-  pub sound_direction : (id : ℕ) (direction : Direction) → IsSound tech library cap d → IsBTermDirection direction → IsSound tech library cap (with_direction id direction d)
+  pub sound_direction : (id : ℕ) (direction : Direction) → IsSound tech library cap d → IsTrue (is_bterm_direction direction) → IsSound tech library cap (with_direction id direction d)
   sound_direction id direction sound lawful = sound_field tech library cap d BTermDirection direction id lawful sound
 
   pub sound_special : (id : ℕ) (special : Bool) → IsSound tech library cap d → IsSound tech library cap (with_special id special d)

@@ -2,6 +2,7 @@
 use Rattle.std.specs.Prelude.{◌≡◌, ◌≤◌, ◌↔◌, false, List, [], ℕ, Option, None, Some, IsSome, IsTrue, length, slice_get}
 use Rattle.std.specs.Option.{option_and_then}
 use Rattle.slot_pool.specs.Table.{Table, is_live, next_id, record_at}
+use Rattle.odb_base.specs.Direction.{is_bterm_direction}
 use Rattle.odb_base.specs.Name.{IsName}
 use Rattle.odb_base.specs.declared.codes.kind.Kind.{Kind}
 use Rattle.odb_base.specs.declared.codes.kind.Kind.TheVariants as kind
@@ -20,7 +21,6 @@ use Rattle.block_store.specs.Alone.{IsNew}
 use Rattle.block_store.specs.Block.{Block, live_in, next_in}
 use Rattle.block_store.specs.Fields.{HasPlace, HasUsage, net_in, special_in}
 use Rattle.block_store.specs.Names.{HasNames, IsFree}
-use Rattle.block_store.specs.BlockTerminals.{IsBTermDirection}
 use Rattle.block_store.specs.Instances.{term_count}
 use Rattle.block_store.specs.KindLaws.{Parts}
 use Rattle.block_store.specs.Kinds.{Entry}
@@ -137,7 +137,7 @@ Can tech library b (step.Rename k id name) = CanRename b k id name
 Can tech library b (step.Swap inst master) = CanSwap library b inst master
 Can tech library b (step.Place k id place) = CanPlace b k id place
 Can tech library b (step.SetUse k id usage) = CanSetUse b k id
-Can tech library b (step.SetDir bterm direction) = IsTrue (is_live b.bterm bterm) × IsBTermDirection direction
+Can tech library b (step.SetDir bterm direction) = IsTrue (is_live b.bterm bterm) × IsTrue (is_bterm_direction direction)
 Can tech library b (step.MakeSpecial net) = special_in net b ≡ Some false
 Can tech library b (step.Join k id net) = CanJoin b k id net
 Can tech library b (step.Part k id net) = CanPart b k id net

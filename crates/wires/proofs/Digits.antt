@@ -2,7 +2,8 @@
 use Rattle.std.proofs.Common.{◌≡◌, ℕ, ◌+◌, ◌-◌, ◌*◌, ◌≤◌, ◌<◌, true, false, List, [], ◌∷◌, None, length, drop, get_or, leb, fold, refl, arith}
 use Rattle.std.proofs.lemmas.Bool.{and_right, lt-leb}
 use Rattle.std.specs.List.{list_all}
-use Rattle.wires.specs.PathWords.{is_digit, number_with, with_digit}
+use Rattle.odb_base.specs.Digits.{is_digit, with_digit}
+use Rattle.wires.specs.PathWords.{number_with}
 
 -- more digits make no number less
 fold_more : (n : ℕ) (digits : List ℕ) → n ≤ fold with_digit n digits

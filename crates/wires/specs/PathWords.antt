@@ -2,6 +2,7 @@
 use Rattle.std.specs.Prelude.{◌+◌, ◌-◌, ◌*◌, ◌==◌, ◌&&◌, ◌||◌, Bool, List, [], ◌∷◌, ℕ, ℤ, pos, neg_ℤ, Option, Some, None, if◌then◌else◌, codes, drop, find, fold, length, nat_le, slice_index}
 use Rattle.std.specs.List.{list_all}
 use Rattle.std.specs.Str.{bytes_eq}
+use Rattle.odb_base.specs.Digits.{is_digit, is_negative, with_digit}
 use Rattle.odb_base.specs.declared.codes.orient.Orient.{Orient}
 use Rattle.odb_base.specs.Orient.{orient_word, orients}
 use Rattle.wires.specs.declared.path_word.PathWord.{PathWord}
@@ -49,14 +50,6 @@ orient_from bytes = find (λ orient. bytes_eq (orient_word orient) bytes) orient
 
 -- ---- numbers
 
--- the byte is a digit
-abbrev pub is_digit : ℕ → Bool
-is_digit b = nat_le 48 b && nat_le b 57
-
--- a number with one more digit
-abbrev pub with_digit : ℕ → ℕ → ℕ
-with_digit n b = n * 10 + (b - 48)
-
 -- the number with these digits behind its own, where they are digits and it is within the limit of coordinates
 abbrev pub number_with : ℕ → List ℕ → Option ℕ
 number_with n digits =
@@ -65,10 +58,6 @@ number_with n digits =
 -- one digit or more, as a number
 abbrev pub magnitude_of : List ℕ → Option ℕ
 magnitude_of digits = if length digits == 0 then None else number_with 0 digits
-
--- the first byte is a minus
-abbrev pub is_negative : List ℕ → Bool
-is_negative bytes = slice_index bytes 0 == 45
 
 -- what stands behind an optional minus
 abbrev pub unsigned : List ℕ → List ℕ

@@ -1,5 +1,7 @@
 ghost use Rattle.std.specs.Prelude.{◌≡◌, ◌≤◌, ◌<◌, IfSome};
-ghost use Rattle.wires.specs.PathWords.{is_digit, is_negative, magnitude_of, number_of, number_with, signed, unsigned};
+ghost use Rattle.wires.specs.PathWords.{magnitude_of, number_of, number_with, signed, unsigned};
+
+use odb_base::{is_digit, is_negative};
 
 /// The greatest coordinate or distance; its negative is the least one.
 const LIMIT: u64 = odb_base::COORDINATE_LIMIT as u64;
@@ -9,34 +11,15 @@ const LIMIT: u64 = odb_base::COORDINATE_LIMIT as u64;
 pub fn signed_number(word: &[u8]) -> Option<i32>
     ensures { result ≡ number_of word.now }
 {
-    let negative = starts_negative(word);
+    let negative = is_negative(word);
     let magnitude = magnitude(without_sign(word))?;
     Some(with_sign(negative, magnitude))
-}
-
-fn starts_negative(word: &[u8]) -> bool
-    ensures { result ≡ is_negative word.now }
-{
-    match word.first() {
-        Some(first) => *first == b'-',
-        None => false,
-    }
 }
 
 fn without_sign(word: &[u8]) -> &[u8]
     ensures { result.now ≡ unsigned word.now }
 {
-    if starts_negative(word) {
-        &word[1..]
-    } else {
-        word
-    }
-}
-
-fn is_decimal_digit(byte: u8) -> bool
-    ensures { result ≡ is_digit byte }
-{
-    byte >= b'0' && byte <= b'9'
+    if is_negative(word) { &word[1..] } else { word }
 }
 
 fn magnitude(digits: &[u8]) -> Option<u64>
@@ -56,7 +39,7 @@ fn number_of_digits(mut digits: &[u8]) -> Option<u64>
 {
     let mut number = 0u64;
     'digits: while let [first, rest @ ..] = digits {
-        if !is_decimal_digit(*first) {
+        if !is_digit(*first) {
             return None;
         }
         number = number * 10 + (*first - b'0') as u64;

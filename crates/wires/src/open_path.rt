@@ -80,9 +80,15 @@ impl OpenPath {
             spot: _,
         } = self;
         match via {
-            None => Ok(path),
+            None => {
+                path.elements.shrink();
+                Ok(path)
+            }
             Some(via) => match path.elements.push(Element::Via { via, orient: None }) {
-                Ok(()) => Ok(path),
+                Ok(()) => {
+                    path.elements.shrink();
+                    Ok(path)
+                }
                 Err(AllocError) => {
                     drop(path);
                     Err(AllocError)

@@ -94,10 +94,11 @@ impl PathReader {
         let PathReader {
             special: _,
             room: _,
-            done,
+            mut done,
             last,
         } = self;
         drop(last);
+        done.shrink();
         done
     }
 

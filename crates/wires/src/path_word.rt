@@ -1,7 +1,7 @@
 ghost use Rattle.std.specs.Prelude.{◌≡◌};
 ghost use Rattle.wires.specs.PathWords.{is, is_unsupported, orient_from, text_of};
 
-use odb_base::{Orient, Worded};
+use odb_base::{Orient, Worded, same_bytes};
 
 /// A word that stands for itself in the paths of DEF.
 #[derive(Clone, Copy, Debug, PartialEq, Eq)]
@@ -22,6 +22,7 @@ pub enum PathWord {
 }
 
 impl PathWord {
+    #[inline]
     fn text(self) -> &'static [u8]
         ensures { result.now ≡ text_of self }
     {
@@ -43,11 +44,12 @@ impl PathWord {
     }
 
     /// Whether these bytes are the word.
+    #[inline]
     #[tactic(auto, unfolding(crate::specs::PathWords::is))]
     pub fn is(self, bytes: &[u8]) -> bool
         ensures { result ≡ is self bytes.now }
     {
-        bytes == self.text()
+        same_bytes(bytes, self.text())
     }
 }
 

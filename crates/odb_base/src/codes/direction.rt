@@ -1,4 +1,5 @@
-ghost use Rattle.odb_base.specs.Direction.{directions, direction_code, direction_word};
+ghost use Rattle.std.specs.Prelude.{◌≡◌};
+ghost use Rattle.odb_base.specs.Direction.{directions, direction_code, direction_word, is_bterm_direction};
 
 use crate::codes::{Coded, Worded};
 
@@ -13,6 +14,15 @@ pub enum Direction {
     Tristate = 3,
     Inout = 4,
     Feedthru = 5,
+}
+
+impl Direction {
+    /// Whether a terminal of the block may have the direction: any but `OUTPUT TRISTATE`.
+    pub fn fits_bterm(self) -> bool
+        ensures { result ≡ is_bterm_direction self }
+    {
+        !matches!(self, Direction::Tristate)
+    }
 }
 
 impl Coded for Direction {

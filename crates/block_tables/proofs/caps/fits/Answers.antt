@@ -3,7 +3,8 @@ use Rattle.std.proofs.lemmas.Bool.{cases_lt}
 use Rattle.odb_base.specs.Kind.{kind_code}
 use Rattle.odb_base.specs.declared.codes.kind.Kind.{Kind}
 use Rattle.block_store.specs.Block.{slots_in}
-use Rattle.block_tables.proofs.KindOrder.{all_passed, code_of_item, same_kind}
+use Rattle.odb_base.proofs.KindCodes.{same_kind}
+use Rattle.block_tables.proofs.KindOrder.{all_passed, code_of_item}
 use Rattle.block_tables.proofs.caps.fits.Goals as goal
 
 pub loop-kind-preserved : goal.loop-kind-preserved

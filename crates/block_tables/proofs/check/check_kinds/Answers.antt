@@ -4,7 +4,8 @@ use Rattle.odb_base.specs.Kind.{kind_code}
 use Rattle.odb_base.specs.declared.codes.kind.Kind.{Kind}
 use Rattle.block_store.specs.Block.{slots_in}
 use Rattle.block_tables.specs.Rules.{IsSoundKind}
-use Rattle.block_tables.proofs.KindOrder.{all_passed, code_of_item, same_kind}
+use Rattle.odb_base.proofs.KindCodes.{same_kind}
+use Rattle.block_tables.proofs.KindOrder.{all_passed, code_of_item}
 use Rattle.block_tables.proofs.check.check_kinds.Goals as goal
 
 pub returns-in-Some-clause-err : goal.returns-in-Some-clause-err

@@ -1,6 +1,7 @@
 use Rattle.std.proofs.Common.{◌^◌, arith, sym, refl, ◌∙◌, get_or, length}
 use Rattle.std.proofs.lemmas.List.{take_rest}
-use Rattle.ld_words.proofs.Decimals.{digit_value, room_on, room_one, short_bound}
+use Rattle.odb_base.proofs.Decimals.{digit_value, room_on, room_one}
+use Rattle.ld_words.proofs.Decimals.{short_bound}
 use Rattle.ld_words.proofs.Scans.{one_place, scan_digit}
 use Rattle.ld_words.proofs.short_decimal.ShortDecimal.scan.Goals as goal
 
@@ -12,13 +13,13 @@ overflow_mul-number c = omega (arith, room_one c.bytes.number c.bytes.rest.now (
 
 pub overflow_add-number : goal.overflow_add-number
 overflow_add-number c =
-    omega (arith, room_one c.bytes.number c.bytes.rest.now (10 ^ 13) c.in-len1-up.len_at_least c.bytes.invariant.room, digit_value (get_or c.bytes.rest.now 0 0) (sym c.if-is_decimal_digit.ensures))
+    omega (arith, room_one c.bytes.number c.bytes.rest.now (10 ^ 13) c.in-len1-up.len_at_least c.bytes.invariant.room, digit_value (get_or c.bytes.rest.now 0 0) (sym c.if-is_digit.ensures))
 
-pub bytes-preserved-then-is_decimal_digit : goal.bytes-preserved-then-is_decimal_digit
-bytes-preserved-then-is_decimal_digit c =
+pub bytes-preserved-then-is_digit : goal.bytes-preserved-then-is_digit
+bytes-preserved-then-is_digit c =
     let rest = c.bytes.rest.now in
     let some = c.in-len1-up.len_at_least in
-    let digit = sym c.if-is_decimal_digit.ensures in
+    let digit = sym c.if-is_digit.ensures in
     record {
       reading = rw (take_rest rest 1) (scan_digit c.bytes.point c.bytes.number c.bytes.places c.one_if-places.result rest some digit c.one_if-places.ensures.value ∙ c.bytes.invariant.reading);
       room = rw (take_rest rest 1) (room_on c.bytes.number rest _ some digit c.bytes.invariant.room);

@@ -1,0 +1,4 @@
+use Rattle.block_store.proofs.block.Block.room.Goals as goal
+
+pub invariant_of-self : goal.invariant_of-self
+invariant_of-self c = rw (c.room.ensures.block) (c.self.invariant)

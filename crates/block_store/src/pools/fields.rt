@@ -1,0 +1,185 @@
+ghost use Rattle.std.specs.Prelude.{◌≡◌, IsTrue, Some};
+ghost use Rattle.slot_pool.specs.Table.{is_live};
+ghost use Rattle.block_store.specs.Block.{live_in};
+ghost use Rattle.block_store.specs.Fields.{HasNet, HasPlace, HasUsage, direction_in, index_in, master_in, net_in, place_in, special_in, terminals_in, usage_in};
+ghost use Rattle.block_store.specs.Moves.{with_direction, with_index, with_master, with_name, with_net, with_place, with_special, with_terminals, with_usage};
+ghost use Rattle.block_store.specs.Names.{HasNames, name_in};
+
+use crate::pools::Pools;
+use block_records::Terminals;
+use odb_base::{Direction, Kind, Name, Placement, Steps, Usage};
+use std::mem;
+use std::sync::ledger::Ledger;
+
+// Each of these sets one field of an object, and answers what it had.
+impl Pools {
+    // The net that a terminal is joined to, 0 for none.
+    pub(crate) fn set_net<L: Ledger>(
+        &mut self,
+        kind: Kind,
+        id: u32,
+        net: u32,
+        moves: &mut Steps<L>,
+    ) -> u32
+        requires live { IsTrue (live_in kind id self.old.block) }
+        requires kind { HasNet kind }
+        ensures value { net_in kind id self.old.block ≡ Some result }
+        ensures block { self.new.block ≡ with_net kind id net self.old.block }
+        ensures cap { self.new.cap ≡ self.old.cap }
+        ensures room { self.new.room ≡ self.old.room }
+    {
+        match kind {
+            Kind::ITerm => mem::replace(&mut self.iterm.change(id, moves).net, net),
+            Kind::BTerm => mem::replace(&mut self.bterm.change(id, moves).fields.net, net),
+            _ => unreachable!(),
+        }
+    }
+
+    // The placement of an instance or a pin.
+    pub(crate) fn set_place<L: Ledger>(
+        &mut self,
+        kind: Kind,
+        id: u32,
+        place: Placement,
+        moves: &mut Steps<L>,
+    ) -> Placement
+        requires live { IsTrue (live_in kind id self.old.block) }
+        requires kind { HasPlace kind }
+        ensures value { place_in kind id self.old.block ≡ Some result }
+        ensures block { self.new.block ≡ with_place kind id place self.old.block }
+        ensures cap { self.new.cap ≡ self.old.cap }
+        ensures room { self.new.room ≡ self.old.room }
+    {
+        match kind {
+            Kind::Inst => mem::replace(&mut self.inst.change(id, moves).fields.place, place),
+            Kind::Pin => mem::replace(&mut self.pin.change(id, moves).place, place),
+            _ => unreachable!(),
+        }
+    }
+
+    // The use of a net or a block terminal.
+    pub(crate) fn set_usage<L: Ledger>(
+        &mut self,
+        kind: Kind,
+        id: u32,
+        usage: Usage,
+        moves: &mut Steps<L>,
+    ) -> Usage
+        requires live { IsTrue (live_in kind id self.old.block) }
+        requires kind { HasUsage kind }
+        ensures value { usage_in kind id self.old.block ≡ Some result }
+        ensures block { self.new.block ≡ with_usage kind id usage self.old.block }
+        ensures cap { self.new.cap ≡ self.old.cap }
+        ensures room { self.new.room ≡ self.old.room }
+    {
+        match kind {
+            Kind::Net => mem::replace(&mut self.net.change(id, moves).fields.usage, usage),
+            Kind::BTerm => mem::replace(&mut self.bterm.change(id, moves).fields.usage, usage),
+            _ => unreachable!(),
+        }
+    }
+
+    // The direction of a block terminal.
+    pub(crate) fn set_direction<L: Ledger>(
+        &mut self,
+        id: u32,
+        direction: Direction,
+        moves: &mut Steps<L>,
+    ) -> Direction
+        requires { IsTrue (is_live self.old.block.bterm id) }
+        ensures value { direction_in id self.old.block ≡ Some result }
+        ensures block { self.new.block ≡ with_direction id direction self.old.block }
+        ensures cap { self.new.cap ≡ self.old.cap }
+        ensures room { self.new.room ≡ self.old.room }
+    {
+        mem::replace(
+            &mut self.bterm.change(id, moves).fields.direction,
+            direction,
+        )
+    }
+
+    // Whether a net is special.
+    pub(crate) fn set_special<L: Ledger>(
+        &mut self,
+        id: u32,
+        special: bool,
+        moves: &mut Steps<L>,
+    ) -> bool
+        requires { IsTrue (is_live self.old.block.net id) }
+        ensures value { special_in id self.old.block ≡ Some result }
+        ensures block { self.new.block ≡ with_special id special self.old.block }
+        ensures cap { self.new.cap ≡ self.old.cap }
+        ensures room { self.new.room ≡ self.old.room }
+    {
+        mem::replace(&mut self.net.change(id, moves).fields.special, special)
+    }
+
+    // The number of the master of an instance.
+    pub(crate) fn set_master<L: Ledger>(
+        &mut self,
+        id: u32,
+        master: u32,
+        moves: &mut Steps<L>,
+    ) -> u32
+        requires { IsTrue (is_live self.old.block.inst id) }
+        ensures value { master_in id self.old.block ≡ Some result }
+        ensures block { self.new.block ≡ with_master id master self.old.block }
+        ensures cap { self.new.cap ≡ self.old.cap }
+        ensures room { self.new.room ≡ self.old.room }
+    {
+        mem::replace(&mut self.inst.change(id, moves).fields.master, master)
+    }
+
+    // The terminals of an instance.
+    pub(crate) fn set_terminals<L: Ledger>(
+        &mut self,
+        id: u32,
+        terminals: Terminals,
+        moves: &mut Steps<L>,
+    ) -> Terminals
+        requires { IsTrue (is_live self.old.block.inst id) }
+        ensures value { terminals_in id self.old.block ≡ Some result }
+        ensures block { self.new.block ≡ with_terminals id terminals self.old.block }
+        ensures cap { self.new.cap ≡ self.old.cap }
+        ensures room { self.new.room ≡ self.old.room }
+    {
+        mem::replace(&mut self.inst.change(id, moves).fields.terminals, terminals)
+    }
+
+    // The place of an instance terminal among those of its instance.
+    pub(crate) fn set_index<L: Ledger>(&mut self, id: u32, index: u32, moves: &mut Steps<L>) -> u32
+        requires { IsTrue (is_live self.old.block.iterm id) }
+        ensures value { index_in id self.old.block ≡ Some result }
+        ensures block { self.new.block ≡ with_index id index self.old.block }
+        ensures cap { self.new.cap ≡ self.old.cap }
+        ensures room { self.new.room ≡ self.old.room }
+    {
+        mem::replace(&mut self.iterm.change(id, moves).index, index)
+    }
+
+    // The name of an object.
+    pub(crate) fn rename<L: Ledger>(
+        &mut self,
+        kind: Kind,
+        id: u32,
+        name: Name,
+        moves: &mut Steps<L>,
+    ) -> Name
+        requires live { IsTrue (live_in kind id self.old.block) }
+        requires named { HasNames kind }
+        ensures value { name_in kind id self.old.block ≡ Some result }
+        ensures block { self.new.block ≡ with_name kind id name self.old.block }
+        ensures cap { self.new.cap ≡ self.old.cap }
+        ensures room { self.new.room ≡ self.old.room }
+    {
+        match kind {
+            Kind::Inst => mem::replace(&mut self.inst.change(id, moves).fields.name, name),
+            Kind::Net => mem::replace(&mut self.net.change(id, moves).fields.name, name),
+            Kind::BTerm => mem::replace(&mut self.bterm.change(id, moves).fields.name, name),
+            Kind::Row => mem::replace(&mut self.row.change(id, moves).fields.name, name),
+            Kind::Region => mem::replace(&mut self.region.change(id, moves).fields.name, name),
+            Kind::Group => mem::replace(&mut self.group.change(id, moves).fields.name, name),
+            _ => unreachable!(),
+        }
+    }
+}
