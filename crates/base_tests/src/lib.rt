@@ -16,6 +16,8 @@ mod masters;
 #[cfg(test)]
 mod named_lists;
 #[cfg(test)]
+mod named_pools;
+#[cfg(test)]
 mod names_and_codes;
 #[cfg(test)]
 mod pools;

@@ -1,7 +1,7 @@
 ghost use Rattle.std.specs.Prelude.{◌≡◌};
 
 use odb_base::Steps;
-use slot_pool::{PoolFault, SlotPool, Taken};
+use slot_pool::{PoolFault, Slot, SlotPool, Taken};
 use std::alloc::Global;
 use std::marker::Brand;
 use std::process::Abort;
@@ -131,5 +131,58 @@ fn kept_record<L: Ledger>(rt: &impl Abort, alloc: Global, blank: Blank) -> Resul
         ),
         (None, Some(13), None)
     );
+    Ok(())
+}
+
+#[test]
+fn slots_lie_in_pages(rt: HostRuntime) -> Result<(), Fail> {
+    three_pages::<Brand>(&rt, rt.alloc(), Blank::new(1))
+}
+
+// A record, or the id below an empty slot's in the free list.
+#[derive(Clone, Copy, Debug, PartialEq, Eq)]
+enum Held {
+    Record(u8),
+    Below(u32),
+}
+
+fn held_by(slot: &Slot<u8>) -> Held {
+    match slot {
+        Slot::Live(record) => Held::Record(*record),
+        Slot::Free { below } => Held::Below(*below),
+    }
+}
+
+// 257 slots, one of each page empty: what the pages lend.
+fn three_pages<L: Ledger>(rt: &impl Abort, alloc: Global, blank: Blank) -> Result<(), Fail>
+    requires name { blank.name ≡ L.name }
+    requires parts { blank.parts ≡ L.parts }
+    requires some { blank.parts ≡ 1 }
+{
+    let mut moves = Steps::<L>::new(blank);
+    let mut pool = SlotPool::new(alloc, 300);
+    for _ in 0..257 {
+        pool.reserve(1)?;
+        pool.take(b'a', &mut moves);
+    }
+    for id in [129, 1, 257] {
+        assert!(rt; pool.live(id));
+        pool.give(id, &mut moves);
+    }
+    assert_eq!(rt; (pool.slots(), pool.moved()), (257, 260));
+    let rows = [
+        (0, 128, Held::Below(129)),
+        (1, 128, Held::Below(0)),
+        (2, 1, Held::Below(1)),
+    ];
+    for (k, slots, first) in rows {
+        let page = pool.page(k).slots();
+        assert_eq!(rt;
+            (page.len(), page.first().map(held_by)),
+            (slots, Some(first))
+        );
+    }
+    let last = pool.page(0).slots().last().map(held_by);
+    assert_eq!(rt; last, Some(Held::Record(b'a')));
     Ok(())
 }

@@ -1,7 +1,6 @@
 -- A sound block with one table changed, and what that table owes.
 use Rattle.std.proofs.Common.{◌≡◌, ◌≢◌, ◌+◌, ◌-◌, ◌≤◌, false, arith, List, ℕ, Option, None, Some, IsTrue, length, refl, sym, ap, subst, ◌∙◌}
-use Rattle.std.specs.Option.{option_map, option_map_or, unwrap_or}
-use Rattle.std.proofs.lemmas.Bool.{false≢true}
+use Rattle.std.specs.Option.{option_map, option_map_or}
 use Rattle.std.proofs.lemmas.Bool.Decides.{nat_tests}
 use Rattle.slot_pool.specs.Table.{IsGood, Table, given, is_live, next_id, record_at, taken, ungiven, untaken}
 use Rattle.odb_base.specs.declared.codes.kind.Kind.{Kind}

@@ -1,8 +1,8 @@
 -- Blocks stay consistent where one table changes: where all lists stand, and where one list gets or loses a member.
-use Rattle.std.proofs.Common.{◌≡◌, ◌≢◌, true, false, List, [], ℕ, Option, None, Some, IsTrue, is_some, refl, sym, ap, subst, ◌∙◌, ◌⊎◌, inl, inr}
-use Rattle.std.specs.Option.{option_map, option_map_or}
+use Rattle.std.proofs.Common.{◌≡◌, true, false, List, ℕ, IsTrue, is_some, refl, sym, ap, subst, ◌∙◌, ◌⊎◌, inl, inr}
+use Rattle.std.specs.Option.{option_map_or}
 use Rattle.std.proofs.lemmas.Bool.{cases_eq, false≢true}
-use Rattle.slot_pool.specs.Table.{IsGood, Table, given, is_live, next_id, record_at, taken}
+use Rattle.slot_pool.specs.Table.{IsGood, Table, is_live, next_id, taken}
 use Rattle.odb_base.specs.Ids.{IsDistinct, holds}
 use Rattle.odb_base.specs.declared.codes.kind.Kind.{Kind}
 use Rattle.odb_base.specs.declared.codes.kind.Kind.TheVariants as kind
@@ -16,7 +16,7 @@ use Rattle.block_store.specs.View.{laws}
 use Rattle.block_store.proofs.Changed.{HasNewName, KeepsName, names_on, names_taken}
 use Rattle.block_store.proofs.OneTable.{stays}
 use Rattle.block_store.proofs.Shown.{live_on, live_record, view_at_on, view_on, view_taken}
-use Rattle.block_store.proofs.TableLemmas.{at_next, at_on_other, at_taken, at_taken_other, good_on, good_taken}
+use Rattle.block_store.proofs.TableLemmas.{at_on_other, at_taken, at_taken_other, good_on, good_taken}
 
 -- terminals that are there in one block are there in another
 pub terminal_moved : (b c : Block) → ((id : ℕ) → IsTrue (is_live b.iterm id) → IsTrue (is_live c.iterm id)) → ((id : ℕ) → IsTrue (is_live b.bterm id) → IsTrue (is_live c.bterm id)) → (member : ℕ) → IsTerminal b member → IsTerminal c member

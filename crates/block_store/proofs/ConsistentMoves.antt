@@ -1,5 +1,5 @@
 -- Blocks stay consistent where objects come and go, and where a field is set.
-use Rattle.std.proofs.Common.{◌≡◌, ◌≢◌, ◌-◌, Bool, true, false, List, [], ℕ, Option, None, Some, IsTrue, is_some, length, refl, sym, ap, subst, ◌∙◌, eqb, cond, take, arith, inl, inr}
+use Rattle.std.proofs.Common.{◌≡◌, ◌≢◌, ◌-◌, Bool, true, false, List, [], ℕ, Option, None, Some, IsTrue, is_some, length, refl, sym, ap, subst, ◌∙◌, eqb, cond, take, arith}
 use Rattle.std.specs.Option.{option_map, option_map_or}
 use Rattle.std.proofs.lemmas.Bool.{false≢true}
 use Rattle.std.proofs.lemmas.Bool.Decides.{nat_tests}
@@ -18,7 +18,7 @@ use Rattle.block_records.specs.declared.record.Record.TheVariants as rec
 use Rattle.block_store.specs.Alone.{IsAlone, IsApart, IsBare, IsNew, IsTerminal, OfBlock, OfInst}
 use Rattle.block_store.specs.Block.{Block, live_in}
 use Rattle.block_store.specs.BlockTerminals.{bterm_name}
-use Rattle.block_store.specs.Consistent.{Groups, Holds, IsConsistent, IsThere, ListSort, Members, Pins, Props, Terms, Wires, lists_in, lists_of, no_lists, of_sort, own_lists}
+use Rattle.block_store.specs.Consistent.{Groups, Holds, IsConsistent, IsThere, ListSort, Members, Pins, Props, Terms, Wires, lists_of, no_lists, of_sort, own_lists}
 use Rattle.block_store.specs.Instances.{inst_name}
 use Rattle.block_store.specs.Kinds.{Entry, table_of, with_table}
 use Rattle.block_store.specs.Lens.{Lens}
@@ -27,10 +27,10 @@ use Rattle.block_store.specs.Moves.{CanUntakeIn, given_in, new_bterm, new_group,
 use Rattle.block_store.specs.Names.{IsFreeBut, name_by}
 use Rattle.block_store.specs.Nets.{net_name}
 use Rattle.block_store.specs.Rows.{row_name}
-use Rattle.block_store.specs.Tables.{AreNamed, HasDistinctNames}
+use Rattle.block_store.specs.Tables.{HasDistinctNames}
 use Rattle.block_store.specs.View.{group_name, laws, region_name}
 use Rattle.block_store.proofs.Changed.{names_given}
-use Rattle.block_store.proofs.Consistency.{consistent_entry, consistent_field, consistent_made, consistent_table, terminal_moved, there_kept}
+use Rattle.block_store.proofs.Consistency.{consistent_entry, consistent_field, consistent_made, consistent_table, terminal_moved}
 use Rattle.block_store.proofs.ConsistentLists.{in_none}
 use Rattle.block_store.proofs.OneTable.{live_is}
 use Rattle.block_store.proofs.Shown.{live_record, named_again, named_stands, view_given}

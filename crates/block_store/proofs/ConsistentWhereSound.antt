@@ -1,8 +1,8 @@
 -- A sound block is consistent.
-use Rattle.std.proofs.Common.{◌≡◌, ◌≤◌, ◌/◌, true, false, List, [], ℕ, Option, None, Some, IsTrue, is_some, refl, sym, ap, subst, ◌∙◌, arith, inl, inr}
+use Rattle.std.proofs.Common.{◌≡◌, ◌≤◌, ◌/◌, true, List, [], ℕ, Option, None, Some, is_some, refl, sym, ap, subst, ◌∙◌, arith, inl, inr}
 use Rattle.std.specs.Option.{option_map_or}
 use Rattle.std.proofs.lemmas.Bool.{cases_eq, false≢true}
-use Rattle.slot_pool.specs.Table.{is_live, record_at}
+use Rattle.slot_pool.specs.Table.{record_at}
 use Rattle.odb_base.specs.Ids.{IsDistinct, holds}
 use Rattle.odb_base.specs.declared.codes.kind.Kind.{Kind}
 use Rattle.odb_base.specs.declared.codes.kind.Kind.TheVariants as kind
@@ -11,7 +11,7 @@ use Rattle.tech.specs.Technology.{Technology, empty_technology}
 use Rattle.library.specs.declared.master.Master.{Master}
 use Rattle.block_store.specs.Alone.{IsTerminal, OfBlock, OfInst}
 use Rattle.block_store.specs.Block.{Block, empty_block}
-use Rattle.block_store.specs.Consistent.{Groups, Holds, IsConsistent, IsThere, ListSort, Members, OwnLists, Pins, Props, Terms, Wires, lists_of, no_lists, of_sort, own_lists}
+use Rattle.block_store.specs.Consistent.{Holds, IsConsistent, IsThere, ListSort, Terms, lists_of, no_lists, of_sort, own_lists}
 use Rattle.block_store.specs.KindLaws.{Parts}
 use Rattle.block_store.specs.Kinds.{Entry, table_of}
 use Rattle.block_store.specs.Lists.{bterm_number, iterm_number}

@@ -2,7 +2,6 @@
 use Rattle.std.proofs.Common.{◌≡◌, ◌≤◌, ◌<◌, ◌-◌, ◌++◌, ◌∷◌, false, eqb, List, [], ℕ, Option, Some, None, length, refl, ap, ◌∙◌, arith, slice_get}
 use Rattle.std.specs.Option.{option_map, option_map_or}
 use Rattle.std.proofs.lemmas.Bool.Decides.{nat_tests}
-use Rattle.slot_pool.specs.Table.{record_at}
 use Rattle.odb_base.specs.declared.codes.kind.Kind.{Kind}
 use Rattle.odb_base.specs.declared.codes.kind.Kind.TheVariants as kind
 use Rattle.block_records.specs.Header.{new_header}
@@ -17,16 +16,13 @@ use Rattle.tech.specs.declared.via.TechVia.{TechVia}
 use Rattle.lawful_parts.specs.Laws.{HasGrown}
 use Rattle.lawful_parts.specs.Lawful.{IsLayer, IsLibrary, IsMaster, IsSite, IsTechVia, IsTechnology}
 use Rattle.lawful_parts.proofs.Growing.{entering_keeps_libraries, growing_keeps_libraries, layer_has_grown, layers_keep_lawful, site_has_grown, sites_keep_lawful, units_have_grown, units_keep_lawful, via_has_grown, vias_keep_lawful}
-use Rattle.block_store.specs.Block.{Block, empty_block, empty_table}
+use Rattle.block_store.specs.Block.{Block, empty_block}
 use Rattle.block_store.specs.Database.{Database, IsSoundDatabase, empty_database, with_master, with_tech}
 use Rattle.block_store.specs.KindLaws.{Parts}
 use Rattle.block_store.specs.Kinds.{Entry, table_of}
-use Rattle.block_store.specs.Lens.{Lens}
-use Rattle.block_store.specs.Names.{name_by}
 use Rattle.block_store.specs.Instances.{term_count}
 use Rattle.block_store.specs.Sorts.{AreHeld, sort}
 use Rattle.block_store.specs.Sound.{HasLawfulMasters, IsKind, IsSound}
-use Rattle.block_store.specs.Tables.{AreEach, AreNamed, HasDistinctNames, IsTable}
 use Rattle.block_store.specs.View.{laws, view}
 use Rattle.block_store.proofs.Changed.{kind_empty, parts_by}
 use Rattle.block_store.proofs.TableLemmas.{none_in_empty}

@@ -1,9 +1,9 @@
 -- What a sound block says of the lists of its nets, of the terminals in them, and of the terminals of instances, in
 -- the words of contracts.
-use Rattle.std.proofs.Common.{◌≡◌, ◌/◌, ◌%◌, ◌≤◌, true, List, [], ℕ, Option, Some, None, IsTrue, refl, sym, ap, ◌∙◌, subst, arith, ◌⊎◌, inl, inr}
+use Rattle.std.proofs.Common.{◌≡◌, ◌/◌, ◌%◌, ◌≤◌, true, List, [], ℕ, Option, Some, None, IsTrue, refl, sym, ap, ◌∙◌, arith, ◌⊎◌, inl, inr}
 use Rattle.std.specs.Option.{option_map, option_map_or}
 use Rattle.std.proofs.lemmas.Bool.{cases_eq}
-use Rattle.slot_pool.specs.Table.{Table, is_live, record_at, times}
+use Rattle.slot_pool.specs.Table.{is_live, record_at, times}
 use Rattle.odb_base.specs.Ids.{IsDistinct, holds}
 use Rattle.odb_base.specs.declared.codes.kind.Kind.TheVariants as kind
 use Rattle.tech.specs.Technology.{Technology}

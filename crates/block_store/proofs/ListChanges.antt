@@ -1,6 +1,6 @@
 -- Who stands in a list after a member came or went, and that none stands in it twice.
-use Rattle.std.proofs.Common.{◌≡◌, ◌||◌, true, false, eqb, eq-eqb, List, [], ◌∷◌, ◌++◌, ℕ, Option, None, Some, refl, sym, ap, subst, ◌∙◌, ◌⊎◌, inl, inr, append-nil}
-use Rattle.std.proofs.lemmas.Bool.{cases_Bool, eqb-true, false≢true, false_from_ne_true, or_parts, or_right}
+use Rattle.std.proofs.Common.{◌≡◌, true, false, eqb, eq-eqb, List, [], ◌∷◌, ℕ, Option, None, Some, refl, sym, ap, subst, ◌∙◌, ◌⊎◌, inl, inr, append-nil}
+use Rattle.std.proofs.lemmas.Bool.{cases_Bool, eqb-true, false≢true, false_from_ne_true, or_parts}
 use Rattle.odb_base.specs.Ids.{IsDistinct, holds, placed, placed_before}
 use Rattle.odb_base.proofs.Members.{holds_placed}
 use Rattle.odb_base.proofs.Splits.{distinct_in}

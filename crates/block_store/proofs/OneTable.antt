@@ -1,5 +1,5 @@
 -- What a change of one table leaves of a block: the other tables, the header, and what the objects show.
-use Rattle.std.proofs.Common.{◌≡◌, ◌≢◌, ℕ, Option, Some, IsTrue, is_some, refl, sym, ap, ◌∙◌}
+use Rattle.std.proofs.Common.{◌≡◌, ℕ, IsTrue, refl, sym, ap, ◌∙◌}
 use Rattle.std.specs.Option.{option_map_or}
 use Rattle.slot_pool.specs.Table.{Table, is_live, record_at}
 use Rattle.odb_base.specs.declared.codes.kind.Kind.{Kind}
@@ -7,9 +7,9 @@ use Rattle.odb_base.specs.declared.codes.kind.Kind.TheVariants as kind
 use Rattle.block_store.specs.Block.{Block, live_in}
 use Rattle.block_store.specs.Kinds.{Entry, on_entry, table, table_of, with_table}
 use Rattle.block_store.specs.Lists.{on_record}
-use Rattle.block_store.specs.View.{View, laws, view}
+use Rattle.block_store.specs.View.{laws, view}
 use Rattle.block_store.proofs.Shown.{live_on, view_on}
-use Rattle.block_store.proofs.TableLemmas.{on_on, on_same}
+use Rattle.block_store.proofs.TableLemmas.{on_same}
 
 -- what holds of one table and of all tables before holds of all tables
 pub stays : (P : (k : Kind) → Table (Entry k) → Type 0) (k : Kind) (t : Table (Entry k)) (b : Block) → P k t → ((other : Kind) → P other (table_of other b)) → (other : Kind) → P other (table_of other (with_table k t b))

@@ -1,6 +1,6 @@
 -- Fields that are set by themselves: no other object sees them. The block stays sound, and setting back what stood
 -- leads to it. A further such field is a constructor, its line in `field` and one in `lawful_with`.
-use Rattle.std.proofs.Common.{IsTrue, ◌≡◌, Bool, ℕ, Option, refl, ap, ◌∙◌}
+use Rattle.std.proofs.Common.{IsTrue, ◌≡◌, Bool, ℕ, Option, refl}
 use Rattle.std.specs.Option.{option_map, unwrap_or}
 use Rattle.slot_pool.specs.Table.{record_at}
 use Rattle.odb_base.specs.Direction.{is_bterm_direction}

@@ -1,5 +1,5 @@
 -- When a block is consistent: what its type keeps, whatever calls are made.
-use Rattle.std.specs.Prelude.{◌≡◌, true, false, List, [], ℕ, IsTrue}
+use Rattle.std.specs.Prelude.{◌≡◌, true, List, [], ℕ, IsTrue}
 use Rattle.std.specs.Option.{option_map_or}
 use Rattle.slot_pool.specs.Table.{IsGood, Table, is_live, record_at}
 use Rattle.odb_base.specs.Ids.{IsDistinct, holds}

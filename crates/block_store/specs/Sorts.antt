@@ -1,7 +1,7 @@
 -- Lists of objects in objects. In a list of a sort stand just the objects of one kind that name the list's object,
 -- each once.
 use Rattle.std.proofs.Common.{refl}
-use Rattle.std.specs.Prelude.{◌≡◌, ◌==◌, ◌≤◌, ◌∷◌, List, ℕ}
+use Rattle.std.specs.Prelude.{◌≡◌, ◌==◌, ◌≤◌, List, ℕ}
 use Rattle.slot_pool.specs.Table.{once_if, times}
 use Rattle.odb_base.specs.declared.codes.kind.Kind.{Kind}
 use Rattle.odb_base.specs.declared.codes.kind.Kind.TheVariants as kind

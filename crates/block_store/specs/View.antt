@@ -1,6 +1,6 @@
 -- The laws of each kind, and what the objects of a block show of what ties them to each other.
 use Rattle.std.proofs.Common.{refl}
-use Rattle.std.specs.Prelude.{Bool, true, List, ℕ, Option, None, Some}
+use Rattle.std.specs.Prelude.{Bool, true, List, ℕ, None, Some}
 use Rattle.std.specs.Option.{option_map_or}
 use Rattle.slot_pool.specs.Table.{record_at}
 use Rattle.odb_base.specs.declared.codes.kind.Kind.{Kind}

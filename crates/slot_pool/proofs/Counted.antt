@@ -1,12 +1,11 @@
 -- A good table has as many free ids as empty slots.
-use Rattle.std.proofs.Common.{◌≡◌, ℕ, suc, ◌+◌, ◌-◌, ◌<◌, ◌≤◌, true, false, cond, List, [], ◌∷◌, length, get_or, reverse, Option, Some, None, is_none, count_by, refl, sym, ap, ◌∙◌, arith}
+use Rattle.std.proofs.Common.{◌≡◌, ℕ, suc, ◌+◌, ◌-◌, ◌<◌, ◌≤◌, true, false, cond, List, [], ◌∷◌, length, get_or, Option, Some, None, is_none, count_by, refl, sym, ap, ◌∙◌, arith}
 use Rattle.std.specs.Prelude.{map}
 use Rattle.std.proofs.Math.ListN.{get_or-map}
 use Rattle.std.proofs.lemmas.Bool.Decides.{nat_tests}
-use Rattle.std.proofs.lemmas.List.{length-map, length-reverse, reverse-reverse}
+use Rattle.std.proofs.lemmas.List.{length-map}
 use Rattle.std.proofs.lemmas.List.Sums.{sum_by-cons, sum_by-set, count_by-le-length}
-use Rattle.slot_pool.specs.Layout.{table_of, IsKept}
-use Rattle.slot_pool.specs.Table.{Table, once_if, is_vacant, record_in, with_slot, IsGood}
+use Rattle.slot_pool.specs.Table.{Table, once_if, is_vacant, with_slot, IsGood}
 use Rattle.slot_pool.proofs.Counts.{vacant_within}
 use Rattle.slot_pool.proofs.Tables.{top_is, IsGood-taken}
 
@@ -74,16 +73,3 @@ module _ {A : Type 0} where
 
   pub fewer_free : (t : Table A) → IsGood t → length t.free ≤ length t.slots
   fewer_free t good = let few = count_by-le-length is_none t.slots in omega (arith, few, counted t good)
-
-  -- a pool is kept whose stack is the free list of a good table from its bottom
-  pub IsKept-parts : (t : Table A) (stack : List ℕ) (slot_room stack_room cap : ℕ) → stack ≡ reverse t.free → IsGood t → length t.slots ≤ cap → length t.slots ≤ slot_room → length t.slots ≤ stack_room → IsKept t.slots stack slot_room stack_room cap
-  IsKept-parts t stack slot_room stack_room cap is good capped in_slots in_stack =
-      let back : reverse stack ≡ t.free = ap reverse is ∙ reverse-reverse t.free in
-      let long : length stack ≡ length t.free = ap length is ∙ length-reverse t.free in
-      record {
-        good = rw back good;
-        counted = counted t good ∙ sym long;
-        capped = capped;
-        in_slots = in_slots;
-        in_stack = in_stack;
-      }

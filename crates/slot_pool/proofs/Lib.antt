@@ -2,5 +2,11 @@ pub mod Counted
 pub mod Counts
 pub mod GoodTables
 pub mod Keeping
+pub mod Mapped
+pub mod Pages
+pub mod Paging
 pub mod Records
+pub mod StackMoves
+pub mod Stacked
+pub mod Stacking
 pub mod Tables

@@ -1,5 +1,5 @@
 -- Tables of numbered slots, their good states, and the moves on them.
-use Rattle.std.specs.Prelude.{◌≡◌, ◌≢◌, ◌==◌, ◌&&◌, ℕ, ◌+◌, ◌-◌, ◌≤◌, Bool, true, false, List, [], ◌∷◌, ◌++◌, Option, Some, None, IsTrue, if◌then◌else◌, is_some, is_none, length, take, All, count_by, nat_le, slice_index_or, slice_set}
+use Rattle.std.specs.Prelude.{◌≡◌, ◌≢◌, ◌==◌, ◌&&◌, ℕ, ◌+◌, ◌-◌, ◌≤◌, Bool, true, false, List, [], ◌∷◌, ◌++◌, Option, Some, None, IsTrue, if◌then◌else◌, is_some, is_none, length, take, All, count_by, min, ◌^◌, nat_le, slice_index_or, slice_set}
 
 -- a list of slots, each with a record or empty, and a list of free ids, top first: id k names the k-th
 -- slot, from 1
@@ -7,11 +7,17 @@ pub record Table (A : Type 0) : Type 0 where
   pub slots : List (Option A)
   pub free : List ℕ
 
--- what a pool is: its table, the greatest number of slots, and for how many takes there is memory
+-- what a pool is: its table, the greatest number of slots, for how many takes there is memory, and how many
+-- moves it has made
 pub record Pool (A : Type 0) : Type 0 where
   pub table : Table A
   pub cap : ℕ
   pub spare : ℕ
+  pub moved : ℕ
+
+-- a count of moves after one more; it stops at the greatest number of 64 bits
+abbrev pub once_more : ℕ → ℕ
+once_more moved = min (moved + 1) (2 ^ 64 - 1)
 
 -- how often an id stands in a list
 abbrev pub times : ℕ → List ℕ → ℕ
@@ -80,9 +86,9 @@ module _ {A : Type 0} where
   abbrev pub replaced : ℕ → A → Table A → Table A
   replaced id x t = record t { slots = with_slot id (Some x) t.slots }
 
-  -- the pool with this record in place of that of the id
+  -- the pool after one move that put this record in place of that of the id
   abbrev pub with_record : Pool A → ℕ → A → Pool A
-  with_record p id x = record p { table = replaced id x p.table }
+  with_record p id x = record p { table = replaced id x p.table; moved = once_more p.moved }
 
   -- the way back of a take: the last slot goes where the take added it, else the id is given
   abbrev pub untaken : ℕ → Bool → Table A → Table A

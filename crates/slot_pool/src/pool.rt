@@ -1,10 +1,13 @@
-ghost use Rattle.std.specs.Prelude.{◌≡◌, ◌↔◌, ◌+◌, ◌-◌, ◌<◌, ◌≤◌, ◌^◌, [], true, IsTrue, IsSome, IfOk, OnOk, length, option_copied, vec_capacity};
+ghost use Rattle.std.specs.Prelude.{◌≡◌, ◌↔◌, ◌+◌, ◌-◌, ◌*◌, ◌<◌, ◌≤◌, ◌^◌, ℕ, [], Some, None, true, IsTrue, IsSome, IfOk, OnOk, length, map, min, option_copied, slice_get, slice_index_or};
 ghost use Rattle.std.specs.Borrow.{sem};
-ghost use Rattle.std.specs.Option.Follows.{option_follows_value};
-ghost use Rattle.slot_pool.specs.Table.{record_in, is_vacant, with_slot};
+ghost use Rattle.slot_pool.specs.Stacking.{below, content, free_from, under};
+ghost use Rattle.slot_pool.specs.Table.{IsGood};
 
 use crate::fault::PoolFault;
 use crate::free_ids::FreeIds;
+use crate::page::Page;
+use crate::slot::Slot;
+use crate::slots::Slots;
 use odb_base::Steps;
 use std::alloc::{AllocError, Global};
 use std::marker::Model;
@@ -13,53 +16,60 @@ use std::sync::ledger::Ledger;
 /// Records in numbered slots, from 1, up to a cap.
 #[derive(Drop)]
 pub struct SlotPool<T> {
-    slots: Vec<Option<T>>,
-    // The ids of the empty slots; the last is the top.
-    free: Vec<u32>,
+    slots: Slots<T>,
+    // The top free id, and how many there are. Each empty slot has the id below its own.
+    top: u32,
+    free: u32,
     cap: u32,
+    moved: u64,
 }
 
 impl<T> Model for SlotPool<T> {
-    ghost use Rattle.std.specs.Prelude.{vec_capacity};
+    ghost use Rattle.std.specs.Prelude.{length};
     ghost use Rattle.slot_pool.specs.Table.{Pool};
 
     ghost Value = { Pool T };
 
-    ghost use Rattle.slot_pool.specs.Layout.{table_of, spare_of, IsKept};
+    ghost use Rattle.slot_pool.specs.Layout.{spare_of, IsKept};
+    ghost use Rattle.slot_pool.specs.Stacking.{stack_table};
 
     ghost view = { λ s. record {
-      table = table_of s.slots.items s.free.items;
+      table = stack_table s.slots.slots s.free s.top;
       cap = s.cap;
-      spare = spare_of s.slots.items s.free.items (vec_capacity s.slots) (vec_capacity s.free) s.cap;
+      spare = spare_of (length s.slots.slots) s.free s.slots.room s.cap;
+      moved = s.moved;
     } };
 
-    ghost invariant = { λ s.
-        IsKept s.slots.items s.free.items (vec_capacity s.slots) (vec_capacity s.free) s.cap };
+    ghost invariant = { λ s. IsKept s.slots.slots s.free s.top s.slots.room s.cap };
 }
 
 impl<T> SlotPool<T> {
-    ghost use Rattle.slot_pool.specs.Table.{IsGood, IsSpareBounded, CanUntake, CanUngive};
+    ghost use Rattle.slot_pool.specs.Table.{IsSpareBounded, CanUntake, CanUngive};
     ghost use Rattle.slot_pool.specs.Table.{record_at, is_live, live_count, next_id, takes_left};
-    ghost use Rattle.slot_pool.specs.Table.{taken, given, replaced, untaken, ungiven};
+    ghost use Rattle.slot_pool.specs.Table.{taken, given, replaced, untaken, ungiven, once_more};
+    ghost use Rattle.slot_pool.specs.Pages.{slot_of};
     ghost use Rattle.slot_pool.specs.Lending.{LendsRecord};
 
     /// A pool with no slots, which will have at most `cap`. It takes no memory.
     pub fn new(alloc: Global, cap: u32) -> SlotPool<T>
         ensures table { result.table ≡ record { slots = []; free = [] } }
         ensures cap { result.cap ≡ cap }
+        ensures moved { result.moved ≡ 0 }
     {
         SlotPool {
-            slots: Vec::new(alloc),
-            free: Vec::new(alloc),
+            slots: Slots::new(alloc),
+            top: 0,
+            free: 0,
             cap,
+            moved: 0,
         }
     }
 
     /// The pool with these slots, these free ids, top first, and this cap. The table has to be good, with at
-    /// most `cap` slots. It takes memory only for ids that will be free.
+    /// most `cap` slots. It takes memory for the pages.
     pub fn from_parts(
         slots: Vec<Option<T>>,
-        mut free: Vec<u32>,
+        free: Vec<u32>,
         cap: u32,
     ) -> Result<SlotPool<T>, AllocError>
     where
@@ -68,10 +78,18 @@ impl<T> SlotPool<T> {
         requires within { length slots.items ≤ cap }
         ensures table { IfOk result (λ pool. pool.table ≡ record { slots = slots.items; free = free.items }) }
         ensures cap { IfOk result (λ pool. pool.cap ≡ cap) }
+        ensures moved { IfOk result (λ pool. pool.moved ≡ 0) }
     {
-        free.reverse();
-        free.reserve(slots.len() - free.len())?;
-        Ok(SlotPool { slots, free, cap })
+        let count = free.len() as u32;
+        let mut slots = in_pages(slots)?;
+        let top = stack(&mut slots, &free);
+        Ok(SlotPool {
+            slots,
+            top,
+            free: count,
+            cap,
+            moved: 0,
+        })
     }
 
     /// The greatest number of slots.
@@ -105,8 +123,14 @@ impl<T> SlotPool<T> {
     pub fn get(&self, id: u32) -> Option<&T>
         ensures { option_copied result ≡ record_at self.now.table id }
     {
-        let place = id.checked_sub(1)?;
-        self.slots.get(place as usize)?.as_ref()
+        let place = id.checked_sub(1)? as usize;
+        if self.slots.len() <= place {
+            return None;
+        }
+        match self.slots.at(place) {
+            Slot::Live(record) => Some(record),
+            Slot::Free { below: _ } => None,
+        }
     }
 
     /// The number of slots with a record.
@@ -117,14 +141,32 @@ impl<T> SlotPool<T> {
     {
         // No count of slots is above the cap, which has 32 bits: so the proof reads it.
         let _cap = self.cap;
-        (self.slots.len() - self.free.len()) as u32
+        self.slots.len() as u32 - self.free
     }
 
     /// The free ids, top first.
     pub fn free(&self) -> FreeIds<'_, T>
         ensures { result ≡ self.now.table.free }
     {
-        FreeIds::new(&self.free)
+        FreeIds::new(&self.slots, self.top, self.free)
+    }
+
+    /// The page of 128 slots, or of fewer where it is the last, whose first id is 128 * `k` + 1. The number of
+    /// slots has to be above 128 * `k`. An empty slot has the id that stands next below its own in the free
+    /// list, 0 for the last.
+    pub fn page(&self, k: u32) -> &Page<T>
+        requires { 128 * k < length self.now.table.slots }
+        ensures count { length result.now ≡ min 128 (length self.now.table.slots - 128 * k) }
+        ensures slots { (i : ℕ) → i < length result.now → slice_get result.now i ≡ Some (slot_of self.now.table (128 * k + i + 1)) }
+    {
+        self.slots.page(k)
+    }
+
+    /// How many moves the pool has made; it stops at the greatest number of 64 bits.
+    pub fn moved(&self) -> u64
+        ensures { result ≡ self.now.moved }
+    {
+        self.moved
     }
 
     /// The id that the take after `k` further takes would give.
@@ -141,13 +183,23 @@ impl<T> SlotPool<T> {
     fn id_after(&self, k: u32) -> u64
         ensures { result ≡ next_id self.now.table k }
     {
-        let free = self.free.len();
-        let k = k as usize;
-        if k < free {
-            self.free[free - 1 - k] as u64
+        if k < self.free {
+            self.free_id(k) as u64
         } else {
-            (self.slots.len() + (k + 1 - free)) as u64
+            self.slots() as u64 + (k as u64 + 1 - self.free as u64)
         }
+    }
+
+    // The free id with so many above it.
+    fn free_id(&self, k: u32) -> u32
+        requires { k < length self.now.table.free }
+        ensures { result ≡ slice_index_or self.now.table.free k 0 }
+    {
+        let mut id = self.top;
+        for _ in 0..k {
+            id = self.slots.below(id);
+        }
+        id
     }
 
     /// Makes `spare` at least `n`. `Full` comes exactly where the free ids and the slots that the cap still
@@ -158,15 +210,15 @@ impl<T> SlotPool<T> {
         ensures table { self.new.table ≡ self.old.table }
         ensures cap { self.new.cap ≡ self.old.cap }
         ensures spare { self.old.spare ≤ self.new.spare }
+        ensures moved { self.new.moved ≡ self.old.moved }
     {
-        let free = self.free.len();
+        let free = self.free as usize;
         let slots = self.slots.len();
         if free + (self.cap as usize - slots) < n as usize {
             return Err(PoolFault::Full);
         }
         let added = (n as usize).saturating_sub(free);
-        self.slots.reserve(added)?;
-        self.free.reserve(slots - free + added)?;
+        self.slots.reserve(slots + added)?;
         Ok(())
     }
 
@@ -181,8 +233,10 @@ impl<T> SlotPool<T> {
         ensures moves { moves.new ≡ moves.old + 1 }
         ensures back { untaken result.id result.grew self.new.table ≡ self.old.table }
         ensures can { CanUntake self.new.table result.id result.grew }
+        ensures moved { self.new.moved ≡ once_more self.old.moved }
+        ensures good { IsGood self.old.table }
     {
-        if self.free.is_empty() {
+        if self.free == 0 {
             let id = self.grow(value);
             moves.tick();
             Taken { id, grew: true }
@@ -202,9 +256,12 @@ impl<T> SlotPool<T> {
         ensures spare { self.old.spare ≤ self.new.spare + 1 }
         ensures back { untaken result true self.new.table ≡ self.old.table }
         ensures can { CanUntake self.new.table result true }
+        ensures moved { self.new.moved ≡ once_more self.old.moved }
+        ensures good { IsGood self.old.table }
     {
         let id = self.slots.len() as u32 + 1;
-        self.slots.push_reserved(Some(value));
+        self.slots.push(Slot::Live(value));
+        self.moved = self.moved.saturating_add(1);
         id
     }
 
@@ -218,11 +275,16 @@ impl<T> SlotPool<T> {
         ensures moves { moves.new ≡ moves.old + 1 }
         ensures back { ungiven result self.new.table ≡ self.old.table }
         ensures can { CanUngive self.new.table }
+        ensures moved { self.new.moved ≡ once_more self.old.moved }
     {
         moves.tick();
-        let value = vacate(&mut self.slots, id);
-        self.free.push_reserved(id);
-        value
+        self.moved = self.moved.saturating_add(1);
+        let slot = self
+            .slots
+            .put((id - 1) as usize, Slot::Free { below: self.top });
+        self.top = id;
+        self.free += 1;
+        record_of(slot)
     }
 
     /// Takes back the take that gave this id last: its slot goes where the take added it (`grew`), and else
@@ -234,6 +296,7 @@ impl<T> SlotPool<T> {
         ensures cap { self.new.cap ≡ self.old.cap }
         ensures spare { self.old.spare + 1 ≤ self.new.spare }
         ensures moves { moves.new ≡ moves.old + 1 }
+        ensures moved { self.new.moved ≡ once_more self.old.moved }
     {
         if grew {
             moves.tick();
@@ -250,8 +313,10 @@ impl<T> SlotPool<T> {
         ensures table { self.new.table ≡ untaken id true self.old.table }
         ensures cap { self.new.cap ≡ self.old.cap }
         ensures spare { self.old.spare + 1 ≤ self.new.spare }
+        ensures moved { self.new.moved ≡ once_more self.old.moved }
     {
-        self.slots.pop().flatten().unwrap()
+        self.moved = self.moved.saturating_add(1);
+        record_of(self.slots.pop())
     }
 
     /// Takes back the give that came last: its id, which is the top free id, gets the record.
@@ -264,10 +329,14 @@ impl<T> SlotPool<T> {
         ensures moves { moves.new ≡ moves.old + 1 }
         ensures back { given result self.new.table ≡ self.old.table }
         ensures live { IsTrue (is_live self.new.table result) }
+        ensures moved { self.new.moved ≡ once_more self.old.moved }
+        ensures good { IsGood self.old.table }
     {
         moves.tick();
-        let id = self.free.pop().unwrap();
-        fill(&mut self.slots, id, value);
+        self.moved = self.moved.saturating_add(1);
+        let id = self.top;
+        self.top = below_of(self.slots.put((id - 1) as usize, Slot::Live(value)));
+        self.free -= 1;
         id
     }
 
@@ -279,9 +348,11 @@ impl<T> SlotPool<T> {
         ensures cap { self.new.cap ≡ self.old.cap }
         ensures spare { self.new.spare ≡ self.old.spare }
         ensures moves { moves.new ≡ moves.old + 1 }
+        ensures moved { self.new.moved ≡ once_more self.old.moved }
     {
         moves.tick();
-        self.slots[(id - 1) as usize].replace(value).unwrap()
+        self.moved = self.moved.saturating_add(1);
+        record_of(self.slots.put((id - 1) as usize, Slot::Live(value)))
     }
 
     /// The record of an id for writing. Once the borrow ends, the slot has the last value written, and all
@@ -293,42 +364,65 @@ impl<T> SlotPool<T> {
         ensures moves { moves.new ≡ moves.old + 1 }
     {
         moves.tick();
-        record_mut(&mut self.slots[(id - 1) as usize])
+        self.moved = self.moved.saturating_add(1);
+        self.slots.record_mut((id - 1) as usize)
     }
 }
 
-// The record of a slot for writing.
-fn record_mut<T>(slot: &mut Option<T>) -> &mut T
-    requires { IsSome slot.old }
-    ensures* writes_back { sem 𝓛 (option_follows_value T.row slot.entry result) }
-    ensures value { slot.old ≡ Some result.now }
+// The record of a slot that has one.
+fn record_of<T>(slot: Slot<T>) -> T
+    requires { IsSome (content slot) }
+    ensures { content slot ≡ Some result }
 {
     match slot {
-        Some(record) => record,
-        None => unreachable!(),
+        Slot::Live(record) => record,
+        Slot::Free { below: _ } => unreachable!(),
     }
 }
 
-// Takes the record out of its slot.
-fn vacate<T>(slots: &mut Vec<Option<T>>, id: u32) -> T
-    requires { IsSome (record_in slots.old.items id) }
-    ensures value { record_in slots.old.items id ≡ Some result }
-    ensures slots { slots.new.items ≡ with_slot id None slots.old.items }
-    ensures room { vec_capacity slots.new ≡ vec_capacity slots.old }
+// The id next below that of an empty slot.
+fn below_of<T>(slot: Slot<T>) -> u32
+    requires { content slot ≡ None }
+    ensures { result ≡ below slot }
 {
-    slots[(id - 1) as usize].take().unwrap()
+    match slot {
+        Slot::Free { below } => below,
+        Slot::Live(_) => unreachable!(),
+    }
 }
 
-// Puts a record into an empty slot.
-fn fill<T>(slots: &mut Vec<Option<T>>, id: u32, value: T)
-    requires { IsTrue (is_vacant slots.old.items id) }
-    ensures slots { slots.new.items ≡ with_slot id (Some value) slots.old.items }
-    ensures room { vec_capacity slots.new ≡ vec_capacity slots.old }
+// The slots in pages; nothing stands below an empty one yet.
+fn in_pages<T: Drop>(slots: Vec<Option<T>>) -> Result<Slots<T>, AllocError>
+    requires { length slots.items < 2 ^ 32 }
+    ensures slots { IfOk result (λ paged. map content paged.slots ≡ slots.items) }
+    ensures room { IfOk result (λ paged. length slots.items ≤ paged.room) }
 {
-    match slots[(id - 1) as usize].replace(value) {
-        None => {}
-        Some(_) => unreachable!(),
+    let mut paged = Slots::new(*slots.allocator());
+    paged.reserve(slots.len())?;
+    for slot in slots {
+        paged.push(match slot {
+            Some(record) => Slot::Live(record),
+            None => Slot::Free { below: 0 },
+        });
     }
+    Ok(paged)
+}
+
+// Stacks the free ids, given top first, in their empty slots, and answers the top.
+fn stack<T: Drop>(slots: &mut Slots<T>, free: &[u32]) -> u32
+    requires { IsGood (record { slots = map content slots.old.slots; free = free.now }) }
+    ensures slots { map content slots.new.slots ≡ map content slots.old.slots }
+    ensures free { free_from slots.new.slots (length free.now) result ≡ free.now }
+    ensures ends { under slots.new.slots (length free.now) result ≡ 0 }
+    ensures room { slots.new.room ≡ slots.old.room }
+{
+    let mut top = 0;
+    for index in (0..free.len()).rev() {
+        let id = free[index];
+        below_of(slots.put((id - 1) as usize, Slot::Free { below: top }));
+        top = id;
+    }
+    top
 }
 
 /// What a take gave.

@@ -1,0 +1,4 @@
+pub mod Finding
+pub mod HeldUpTo
+pub mod Holding
+pub mod Moving
