@@ -49,6 +49,8 @@ impl Field<Net> for Special {
     }
 
     ghost named = { λ net special. refl };
+
+    ghost last = { λ net first second. refl };
 }
 
 #[derive(Clone, Copy)]

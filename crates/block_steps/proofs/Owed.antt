@@ -20,7 +20,8 @@ use Rattle.block_store.specs.Fields.{HasPlace, HasUsage}
 use Rattle.block_store.specs.Sound.{IsSound}
 use Rattle.block_store.proofs.Changed.{parts_by}
 use Rattle.block_store.proofs.Joined.{shown_by}
-use Rattle.block_store.proofs.Shown.{live_by, live_record}
+use Rattle.slot_pool.proofs.Mapped.{live_record}
+use Rattle.block_store.proofs.Shown.{live_by}
 use Rattle.steps_net.specs.Back.{Came, IsLedTo, grown_by, record_moved, removed}
 use Rattle.steps_net.specs.Can.{CanDel, CanNew}
 use Rattle.steps_net.specs.Do.{deleted, made_in}

@@ -12,14 +12,15 @@ use Rattle.block_store.specs.Block.{Block, empty_table, is_empty}
 use Rattle.block_store.specs.KindLaws.{Parts}
 use Rattle.block_store.specs.Kinds.{Entry, on_entry, table, table_of, with_table}
 use Rattle.block_store.specs.Lens.{Lens}
-use Rattle.block_store.specs.Lists.{on_record}
-use Rattle.block_store.specs.Names.{name_by}
+use Rattle.slot_pool.specs.Mapped.{on_record}
+use Rattle.named_pool.specs.Names.{AreNamed, name_by}
 use Rattle.block_store.specs.Sound.{AreJoined, IsKind, IsSound}
-use Rattle.block_store.specs.Tables.{AreEach, AreNamed, HasDistinctNames, IsTable}
+use Rattle.block_store.specs.Tables.{AreEach, HasDistinctNames, IsTable}
 use Rattle.block_store.specs.View.{laws, view}
 use Rattle.block_store.proofs.OneTable.{header_stays, shown, stays, view_same}
-use Rattle.block_store.proofs.TableLemmas.{back_given, back_taken, none_in_empty, on_missing}
-use Rattle.block_store.proofs.Shown.{each_given, each_on, each_taken, live_record, named_given, named_on, named_stands, named_taken, table_given, table_on, table_taken, view_given, view_on, view_taken}
+use Rattle.slot_pool.proofs.Mapped.{live_record, on_missing, view_on}
+use Rattle.block_store.proofs.TableLemmas.{back_given, back_taken, none_in_empty}
+use Rattle.block_store.proofs.Shown.{each_given, each_on, each_taken, named_given, named_on, named_stands, named_taken, table_given, table_on, table_taken, view_given, view_taken}
 
 module _ {A : Type 0} where
   -- the change leaves the name, where the table has names

@@ -10,13 +10,14 @@ use Rattle.block_store.specs.Alone.{IsTerminal, OfBlock, OfInst}
 use Rattle.block_store.specs.Block.{Block}
 use Rattle.block_store.specs.Consistent.{Groups, Holds, IsConsistent, IsThere, ListSort, Members, OwnLists, Pins, Props, Terms, Wires, lists_in, lists_of, no_lists, of_sort, own_lists}
 use Rattle.block_store.specs.Kinds.{Entry, on_entry, table_of, with_table}
-use Rattle.block_store.specs.Lists.{on_record}
+use Rattle.slot_pool.specs.Mapped.{on_record}
 use Rattle.block_store.specs.Tables.{HasDistinctNames}
 use Rattle.block_store.specs.View.{laws}
 use Rattle.block_store.proofs.Changed.{HasNewName, KeepsName, names_on, names_taken}
 use Rattle.block_store.proofs.OneTable.{stays}
-use Rattle.block_store.proofs.Shown.{live_on, live_record, view_at_on, view_on, view_taken}
-use Rattle.block_store.proofs.TableLemmas.{at_on_other, at_taken, at_taken_other, good_on, good_taken}
+use Rattle.slot_pool.proofs.Mapped.{at_on_other, at_taken, at_taken_other, good_on, live_record, view_on}
+use Rattle.block_store.proofs.Shown.{live_on, view_at_on, view_taken}
+use Rattle.block_store.proofs.TableLemmas.{good_taken}
 
 -- terminals that are there in one block are there in another
 pub terminal_moved : (b c : Block) → ((id : ℕ) → IsTrue (is_live b.iterm id) → IsTrue (is_live c.iterm id)) → ((id : ℕ) → IsTrue (is_live b.bterm id) → IsTrue (is_live c.bterm id)) → (member : ℕ) → IsTerminal b member → IsTerminal c member

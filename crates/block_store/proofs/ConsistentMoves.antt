@@ -22,9 +22,11 @@ use Rattle.block_store.specs.Consistent.{Groups, Holds, IsConsistent, IsThere, L
 use Rattle.block_store.specs.Instances.{inst_name}
 use Rattle.block_store.specs.Kinds.{Entry, table_of, with_table}
 use Rattle.block_store.specs.Lens.{Lens}
-use Rattle.block_store.specs.Lists.{bterm_number, iterm_number, list_in, on_record}
+use Rattle.slot_pool.specs.Mapped.{on_record}
+use Rattle.block_store.specs.Lists.{bterm_number, iterm_number, list_in}
 use Rattle.block_store.specs.Moves.{CanUntakeIn, given_in, new_bterm, new_group, new_inst, new_net, new_region, new_row, taken_in, ungiven_in, untaken_in, with_direction, with_index, with_master, with_name, with_net, with_place, with_special, with_terminals, with_usage}
-use Rattle.block_store.specs.Names.{IsFreeBut, name_by}
+use Rattle.named_pool.specs.Names.{name_by}
+use Rattle.block_store.specs.Names.{IsFreeBut}
 use Rattle.block_store.specs.Nets.{net_name}
 use Rattle.block_store.specs.Rows.{row_name}
 use Rattle.block_store.specs.Tables.{HasDistinctNames}
@@ -33,8 +35,9 @@ use Rattle.block_store.proofs.Changed.{names_given}
 use Rattle.block_store.proofs.Consistency.{consistent_entry, consistent_field, consistent_made, consistent_table, terminal_moved}
 use Rattle.block_store.proofs.ConsistentLists.{in_none}
 use Rattle.block_store.proofs.OneTable.{live_is}
-use Rattle.block_store.proofs.Shown.{live_record, named_again, named_stands, view_given}
-use Rattle.block_store.proofs.TableLemmas.{at_given_other, good_given}
+use Rattle.slot_pool.proofs.Mapped.{at_given_other, live_record}
+use Rattle.block_store.proofs.Shown.{named_again, named_stands, view_given}
+use Rattle.block_store.proofs.TableLemmas.{good_given}
 
 -- a new object of a name that none has
 pub consistent_taken : (r : Record) (b : Block) → IsNew r b → IsConsistent b → IsConsistent (taken_in r b)

@@ -15,7 +15,6 @@ pub mod OneTable
 pub mod Places
 pub mod SetFields
 pub mod Shown
-pub mod Slots
 pub mod TableLemmas
 pub mod Upcoming
 pub mod Upward

@@ -13,7 +13,7 @@ use Rattle.library.specs.declared.master.Master.{Master}
 use Rattle.block_store.specs.Block.{Block}
 use Rattle.block_store.specs.Kinds.{Entry, on_entry, table, table_of}
 use Rattle.block_store.specs.Lens.{over}
-use Rattle.block_store.specs.Lists.{on_record}
+use Rattle.slot_pool.specs.Mapped.{on_record}
 use Rattle.block_store.specs.Sorts.{BTermsOfNet, ITermsOfNet, IsHeld, Sort, list_of, moved, owner_of, sort}
 use Rattle.block_store.specs.Sound.{IsSound}
 use Rattle.block_store.specs.TermPlaces.{place_of, terminals_of}
@@ -22,7 +22,8 @@ use Rattle.block_store.proofs.Changed.{kinds_on, parts_by, sound_beside}
 use Rattle.block_store.proofs.Held.{held_beside, held_linked, held_named, held_none, held_unlinked, placed_stands, times_without_other}
 use Rattle.block_store.proofs.OneTable.{header_stays, lift, on_entry_back, seen_on}
 use Rattle.block_store.proofs.Memberships.{kinds_apart, lawful_list, lawful_names, list_beside, list_get, list_keeps_name, list_set, member_beside, names_beside, names_get, names_keep_name, names_set, no_list, numbers_apart, one_after_other, place_beside_list, place_beside_name, terminals_beside_list, terminals_beside_name}
-use Rattle.block_store.proofs.Shown.{from_one, live_record, view_at_on, view_other_on}
+use Rattle.slot_pool.proofs.Mapped.{live_record}
+use Rattle.block_store.proofs.Shown.{from_one, view_at_on, view_other_on}
 use Rattle.block_store.proofs.TableLemmas.{on_on, on_same}
 
 -- what the lists and the members show after a move

@@ -6,9 +6,10 @@ use Rattle.odb_base.specs.declared.codes.kind.Kind.{Kind}
 use Rattle.odb_base.specs.declared.codes.kind.Kind.TheVariants as kind
 use Rattle.block_store.specs.Block.{Block, live_in}
 use Rattle.block_store.specs.Kinds.{Entry, on_entry, table, table_of, with_table}
-use Rattle.block_store.specs.Lists.{on_record}
+use Rattle.slot_pool.specs.Mapped.{on_record}
 use Rattle.block_store.specs.View.{laws, view}
-use Rattle.block_store.proofs.Shown.{live_on, view_on}
+use Rattle.slot_pool.proofs.Mapped.{view_on}
+use Rattle.block_store.proofs.Shown.{live_on}
 use Rattle.block_store.proofs.TableLemmas.{on_same}
 
 -- what holds of one table and of all tables before holds of all tables

@@ -5,24 +5,13 @@ use Rattle.std.proofs.lemmas.Bool.{cases_eq, false≢true}
 use Rattle.slot_pool.proofs.Counts.{live_within}
 use Rattle.slot_pool.specs.Table.{IsGood, Table, given, is_live, next_id, record_at, taken}
 use Rattle.block_store.specs.Block.{is_empty}
-use Rattle.block_store.specs.Lists.{on_record}
-use Rattle.block_store.specs.Names.{name_by}
-use Rattle.block_store.specs.Tables.{AreEach, AreNamed, IsTable}
-use Rattle.block_store.proofs.TableLemmas.{at_given, at_given_other, at_next, at_on, at_on_other, at_taken, at_taken_other, good_given, good_on, good_taken, on_missing, slots_given, slots_on, slots_taken}
+use Rattle.slot_pool.specs.Mapped.{on_record}
+use Rattle.named_pool.specs.Names.{AreNamed, name_by}
+use Rattle.block_store.specs.Tables.{AreEach, IsTable}
+use Rattle.slot_pool.proofs.Mapped.{at_given, at_given_other, at_next, at_on, at_on_other, at_taken, at_taken_other, good_on, live_record, on_missing, slots_on, view_on}
+use Rattle.block_store.proofs.TableLemmas.{good_given, good_taken, slots_given, slots_taken}
 
 module _ {A : Type 0} where
-  -- an object that is there has a record
-  pub record LiveRecord (t : Table A) (id : ℕ) : Type 0 where
-    pub value : A
-    pub is : record_at t id ≡ Some value
-
-  live_record_by : (t : Table A) (id : ℕ) (o : Option A) → record_at t id ≡ o → is_some o ≡ true → LiveRecord t id
-  live_record_by t id None is live = absurd (false≢true live)
-  live_record_by t id (Some x) is live = record { value = x; is = is }
-
-  pub live_record : (t : Table A) (id : ℕ) → IsTrue (is_live t id) → LiveRecord t id
-  live_record t id live = live_record_by t id (record_at t id) refl live
-
   -- what has a record is there
   pub live_by : (t : Table A) (id : ℕ) (x : A) → record_at t id ≡ Some x → IsTrue (is_live t id)
   live_by t id x found = ap is_some found
@@ -36,19 +25,6 @@ module _ {A : Type 0} where
   none_live t id none live = let x = live_record t id live in none id x.value x.is
 
 module _ {A R : Type 0} (view : Option A → R) where
-  view_on_by : (change : A → A) (id other : ℕ) (t : Table A) (o : Option A) → record_at t id ≡ o → ((x : A) → o ≡ Some x → view (Some (change x)) ≡ view (Some x)) → other ≡ id → view (record_at (on_record change id t) other) ≡ view (record_at t other)
-  view_on_by change id other t None is same e = ap (λ u. view (record_at u other)) (on_missing change id t is)
-  view_on_by change id other t (Some x) is same e =
-      ap (λ k. view (record_at (on_record change id t) k)) e ∙ ap view (at_on change id t) ∙ ap (λ o. view (option_map change o)) is
-      ∙ same x refl ∙ ap view (sym is) ∙ ap (λ k. view (record_at t k)) (sym e)
-
-  -- a changed record that shows the same: all shows the same
-  pub view_on : (change : A → A) (id : ℕ) (t : Table A) → ((x : A) → record_at t id ≡ Some x → view (Some (change x)) ≡ view (Some x)) → (other : ℕ) → view (record_at (on_record change id t) other) ≡ view (record_at t other)
-  view_on change id t same other = elim (cases_eq other id) [
-    | inl e ↦ view_on_by change id other t (record_at t id) refl same e
-    | inr e ↦ ap view (at_on_other change id other t e)
-  ]
-
   -- what the changed record shows, and the others
   pub view_at_on : (change : A → A) (id : ℕ) (x : A) (t : Table A) → record_at t id ≡ Some x → view (record_at (on_record change id t) id) ≡ view (Some (change x))
   view_at_on change id x t found = ap view (at_on change id t) ∙ ap (λ o. view (option_map change o)) found

@@ -6,20 +6,16 @@ use Rattle.std.proofs.lemmas.List.{length_push, length-set, set-set, set-get_or}
 use Rattle.slot_pool.specs.Table.{CanUntake, IsGood, Table, given, is_live, next_id, record_at, replaced, taken, taken_by, ungiven, untaken}
 use Rattle.slot_pool.proofs.Counts.{live_within, vacant_within}
 use Rattle.slot_pool.proofs.GoodTables.{next_ids_are_new}
-use Rattle.slot_pool.proofs.Records.{records_after_give, records_after_replace, records_after_take}
+use Rattle.slot_pool.proofs.Mapped.{at_on, at_taken, on_found, on_missing}
 use Rattle.slot_pool.proofs.Tables.{IsGood-given, IsGood-replaced, IsGood-taken, given-taken, taken-given, top_is, untaken-taken}
 use Rattle.std.proofs.lemmas.Bool.Decides.{nat_tests}
 use Rattle.block_store.specs.Block.{empty_table, is_empty}
-use Rattle.block_store.specs.Lists.{on_record, on_slot}
+use Rattle.slot_pool.specs.Mapped.{on_record, on_slot}
 
 module _ {A : Type 0} where
   -- an empty table has no record
   pub none_in_empty : (id : ℕ) → record_at (empty_table {A = A}) id ≡ None
   none_in_empty id = grind (arith, nat_tests)
-
-  -- the identifier that a good table gives next has no record yet
-  pub at_next : (t : Table A) → IsGood t → record_at t (next_id t 0) ≡ None
-  at_next t good = next_ids_are_new t good 0
 
   next_some_by : (slots : List (Option A)) (free : List ℕ) → IsGood (record { slots = slots; free = free }) → 1 ≤ next_id (record { slots = slots; free = free }) 0
   next_some_by slots [] good = omega arith
@@ -28,13 +24,6 @@ module _ {A : Type 0} where
   -- the next identifier is from 1 on
   pub next_some : (t : Table A) → IsGood t → 1 ≤ next_id t 0
   next_some t good = next_some_by t.slots t.free good
-
-  -- after a take: the new record at the next identifier, and elsewhere what was there
-  pub at_taken : (x : A) (t : Table A) → IsGood t → record_at (taken x t) (next_id t 0) ≡ Some x
-  at_taken x t good = records_after_take x t good (next_id t 0) ∙ rw (eq-eqb (next_id t 0) (next_id t 0) refl) refl
-
-  pub at_taken_other : (x : A) (t : Table A) (id : ℕ) → IsGood t → id ≢ next_id t 0 → record_at (taken x t) id ≡ record_at t id
-  at_taken_other x t id good other = records_after_take x t good id ∙ rw (ne_eqb id (next_id t 0) other) refl
 
   pub good_taken : (x : A) (t : Table A) → IsGood t → IsGood (taken x t)
   good_taken x t good = IsGood-taken x t.slots t.free good
@@ -62,13 +51,6 @@ module _ {A : Type 0} where
   pub back_taken : (x : A) (t : Table A) → IsGood t → untaken (next_id t 0) (is_empty t.free) (taken x t) ≡ t
   back_taken x t good = back_taken_by x t.slots t.free good
 
-  -- after a give: no record at the identifier, and elsewhere what was there
-  pub at_given : (id : ℕ) (t : Table A) → IsTrue (is_live t id) → record_at (given id t) id ≡ None
-  at_given id t live = records_after_give id t live id ∙ rw (eq-eqb id id refl) refl
-
-  pub at_given_other : (id other : ℕ) (t : Table A) → IsTrue (is_live t id) → other ≢ id → record_at (given id t) other ≡ record_at t other
-  at_given_other id other t live apart = records_after_give id t live other ∙ rw (ne_eqb other id apart) refl
-
   pub good_given : (id : ℕ) (t : Table A) → IsGood t → IsTrue (is_live t id) → IsGood (given id t)
   good_given id t good live = IsGood-given id t good live
 
@@ -79,41 +61,6 @@ module _ {A : Type 0} where
   -- a give taken back
   pub back_given : (x : A) (id : ℕ) (t : Table A) → record_at t id ≡ Some x → ungiven x (given id t) ≡ t
   back_given x id t found = taken-given x id t found
-
-  -- a changed record, where it is there; a change of what isn't there changes nothing
-  pub on_found : (change : A → A) (id : ℕ) (x : A) (t : Table A) → record_at t id ≡ Some x → on_record change id t ≡ replaced id (change x) t
-  on_found change id x t found = ap (on_slot change id t) found
-
-  pub on_missing : (change : A → A) (id : ℕ) (t : Table A) → record_at t id ≡ None → on_record change id t ≡ t
-  on_missing change id t missing = ap (on_slot change id t) missing
-
-  at_on_by : (change : A → A) (id : ℕ) (t : Table A) (o : Option A) → record_at t id ≡ o → record_at (on_slot change id t o) id ≡ option_map change o
-  at_on_by change id t None is = is
-  at_on_by change id t (Some x) is = records_after_replace id (change x) t (ap is_some is) id ∙ rw (eq-eqb id id refl) refl
-
-  pub at_on : (change : A → A) (id : ℕ) (t : Table A) → record_at (on_record change id t) id ≡ option_map change (record_at t id)
-  at_on change id t = at_on_by change id t (record_at t id) refl
-
-  at_on_other_by : (change : A → A) (id other : ℕ) (t : Table A) (o : Option A) → record_at t id ≡ o → other ≢ id → record_at (on_slot change id t o) other ≡ record_at t other
-  at_on_other_by change id other t None is apart = refl
-  at_on_other_by change id other t (Some x) is apart = records_after_replace id (change x) t (ap is_some is) other ∙ rw (ne_eqb other id apart) refl
-
-  pub at_on_other : (change : A → A) (id other : ℕ) (t : Table A) → other ≢ id → record_at (on_record change id t) other ≡ record_at t other
-  at_on_other change id other t apart = at_on_other_by change id other t (record_at t id) refl apart
-
-  good_on_by : (change : A → A) (id : ℕ) (t : Table A) (o : Option A) → record_at t id ≡ o → IsGood t → IsGood (on_slot change id t o)
-  good_on_by change id t None is good = good
-  good_on_by change id t (Some x) is good = IsGood-replaced id (change x) t good (ap is_some is)
-
-  pub good_on : (change : A → A) (id : ℕ) (t : Table A) → IsGood t → IsGood (on_record change id t)
-  good_on change id t good = good_on_by change id t (record_at t id) refl good
-
-  slots_on_by : (change : A → A) (id : ℕ) (t : Table A) (o : Option A) → length (on_slot change id t o).slots ≡ length t.slots
-  slots_on_by change id t None = refl
-  slots_on_by change id t (Some x) = length-set t.slots (id - 1) (Some (change x))
-
-  pub slots_on : (change : A → A) (id : ℕ) (t : Table A) → length (on_record change id t).slots ≡ length t.slots
-  slots_on change id t = slots_on_by change id t (record_at t id)
 
   -- a record replaced twice
   replaced_twice : (x y : A) (id : ℕ) (t : Table A) → replaced id y (replaced id x t) ≡ replaced id y t
@@ -128,7 +75,7 @@ module _ {A : Type 0} where
   on_on_by : (later first : A → A) (id : ℕ) (t : Table A) (o : Option A) → record_at t id ≡ o → on_record later id (on_slot first id t o) ≡ on_slot (λ x. later (first x)) id t o
   on_on_by later first id t None is = on_missing later id t is
   on_on_by later first id t (Some x) is =
-      on_found later id (first x) (replaced id (first x) t) (at_on_by first id t (Some x) is)
+      on_found later id (first x) (replaced id (first x) t) (ap (λ u. record_at u id) (sym (on_found first id x t is)) ∙ at_on first id t ∙ ap (option_map first) is)
       ∙ replaced_twice (first x) (later (first x)) id t
 
   -- two changes of one record are one; and a change taken back is none
@@ -141,6 +88,14 @@ module _ {A : Type 0} where
 
   pub on_same : (change : A → A) (id : ℕ) (t : Table A) → ((x : A) → record_at t id ≡ Some x → change x ≡ x) → on_record change id t ≡ t
   on_same change id t same = on_same_by change id t (record_at t id) refl same
+
+  on_alike_by : (change other : A → A) (id : ℕ) (t : Table A) (o : Option A) → ((x : A) → o ≡ Some x → change x ≡ other x) → on_slot change id t o ≡ on_slot other id t o
+  on_alike_by change other id t None same = refl
+  on_alike_by change other id t (Some x) same = ap (λ y. replaced id y t) (same x refl)
+
+  -- two changes that make one of the record
+  pub on_alike : (change other : A → A) (id : ℕ) (t : Table A) → ((x : A) → record_at t id ≡ Some x → change x ≡ other x) → on_record change id t ≡ on_record other id t
+  on_alike change other id t same = on_alike_by change other id t (record_at t id) same
 
 -- A field that is set, and set back to what it was, or to a first value where there is no object.
 pub set_back : {A B : Type 0} (set : B → A → A) (get : A → B) (new first : B) (id : ℕ) (t : Table A) → ((old new : B) (x : A) → set old (set new x) ≡ set old x) → ((x : A) → set (get x) x ≡ x) → on_record (set (unwrap_or (option_map get (record_at t id)) first)) id (on_record (set new) id t) ≡ t

@@ -19,7 +19,7 @@ use Rattle.block_store.specs.declared.entry.GroupEntry.{GroupEntry}
 use Rattle.slot_pool.specs.Table.{Table}
 use Rattle.block_store.specs.Block.{Block}
 use Rattle.block_store.specs.Lens.{Lens}
-use Rattle.block_store.specs.Lists.{on_record}
+use Rattle.slot_pool.specs.Mapped.{on_record}
 
 -- what a slot of a kind's table holds
 abbrev pub Entry : Kind → Type 0

@@ -1,6 +1,7 @@
 -- The lists of objects, and what becomes of a block where one of them changes.
 use Rattle.std.specs.Prelude.{◌+◌, ◌*◌, List, [], ℕ, Option, None, Some, IsTrue}
-use Rattle.slot_pool.specs.Table.{Table, is_live, record_at, replaced}
+use Rattle.slot_pool.specs.Mapped.{on_record}
+use Rattle.slot_pool.specs.Table.{is_live, record_at}
 use Rattle.odb_base.specs.declared.codes.kind.Kind.{Kind}
 use Rattle.odb_base.specs.declared.codes.kind.Kind.TheVariants as kind
 use Rattle.block_store.specs.declared.list_of.ListOf.{ListOf}
@@ -8,15 +9,6 @@ use Rattle.block_store.specs.declared.list_of.ListOf.TheVariants as list
 use Rattle.block_store.specs.Block.{Block}
 
 module _ {A : Type 0} where
-  -- the table with the record in a slot changed, where it has one
-  abbrev pub on_slot : (A → A) → ℕ → Table A → Option A → Table A
-  on_slot change id t None = t
-  on_slot change id t (Some x) = replaced id (change x) t
-
-  -- the table with the record of an identifier changed
-  abbrev pub on_record : (A → A) → ℕ → Table A → Table A
-  on_record change id t = on_slot change id t (record_at t id)
-
   -- a list that the object in a slot has; no list where there is no object
   abbrev pub list_in : (A → List ℕ) → Option A → List ℕ
   list_in list_of None = []

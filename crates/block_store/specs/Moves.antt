@@ -21,7 +21,7 @@ use Rattle.block_store.specs.declared.entry.RegionEntry.{RegionEntry}
 use Rattle.block_records.specs.declared.group.GroupRec.{GroupRec}
 use Rattle.block_store.specs.declared.entry.GroupEntry.{GroupEntry}
 use Rattle.block_store.specs.Block.{Block}
-use Rattle.block_store.specs.Lists.{on_record}
+use Rattle.slot_pool.specs.Mapped.{on_record}
 
 -- a new instance has empty lists
 abbrev pub new_inst : InstRec → InstEntry

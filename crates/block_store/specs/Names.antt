@@ -1,26 +1,10 @@
--- Objects by their names, which are found by looking at each slot.
-use Rattle.std.specs.Prelude.{◌≡◌, ◌≢◌, Bool, false, List, ℕ, Option, None, Some, IsTrue, option_map}
-use Rattle.std.specs.List.{position_from}
-use Rattle.std.specs.Str.{bytes_eq}
-use Rattle.slot_pool.specs.Table.{Table, record_at}
+-- Objects of a kind by their names.
+use Rattle.std.specs.Prelude.{◌≡◌, ◌≢◌, List, ℕ, Option, None, Some, IsTrue}
 use Rattle.odb_base.specs.Kind.{has_names}
 use Rattle.odb_base.specs.declared.codes.kind.Kind.{Kind}
 use Rattle.odb_base.specs.declared.codes.kind.Kind.TheVariants as kind
+use Rattle.named_pool.specs.Names.{find_by, name_by}
 use Rattle.block_store.specs.Block.{Block}
-
-module _ {A : Type 0} where
-  -- the slot has an object of this name
-  abbrev pub is_named : (A → List ℕ) → List ℕ → Option A → Bool
-  is_named name_of name None = false
-  is_named name_of name (Some x) = bytes_eq (name_of x) name
-
-  -- the first identifier in a table whose object has this name
-  abbrev pub find_by : (A → List ℕ) → List ℕ → Table A → Option ℕ
-  find_by name_of name t = position_from (is_named name_of name) 1 t.slots
-
-  -- the name of an object, found in its table
-  abbrev pub name_by : (A → List ℕ) → ℕ → Table A → Option (List ℕ)
-  name_by name_of id t = option_map name_of (record_at t id)
 
 -- the first object of a kind that has this name; none of a kind without names
 abbrev pub find_in : Kind → List ℕ → Block → Option ℕ

@@ -1,7 +1,10 @@
 -- Tables of which a block can be made.
 use Rattle.std.specs.Prelude.{ℕ}
 use Rattle.block_store.specs.Block.{Block}
-use Rattle.block_store.specs.Tables.{IsTable}
+use Rattle.odb_base.specs.declared.codes.kind.Kind.{Kind}
+use Rattle.block_store.specs.Kinds.{table_of}
+use Rattle.block_store.specs.Tables.{HasDistinctNames, IsTable}
+use Rattle.block_store.specs.View.{laws}
 
 -- each table is good, with at most so many slots
 pub record AreTables (cap : ℕ) (b : Block) : Type 0 where
@@ -17,3 +20,7 @@ pub record AreTables (cap : ℕ) (b : Block) : Type 0 where
   pub region : IsTable cap b.region
   pub group : IsTable cap b.group
   pub prop : IsTable cap b.prop
+
+-- no two objects of a kind have one name
+abbrev pub HaveDistinctNames : Block → Type 0
+HaveDistinctNames b = (k : Kind) → HasDistinctNames (laws k).name (table_of k b)

@@ -5,6 +5,7 @@ ghost use Rattle.block_store.specs.Block.{free_in};
 use crate::block::Block;
 use crate::entry::{BTermEntry, GroupEntry, InstEntry, NetEntry, RegionEntry, RowEntry};
 use block_records::{BlockageRec, ITermRec, PinRec, PropRec, TrackRec, WireRec};
+use named_pool::NameCell;
 use odb_base::Kind;
 use slot_pool::FreeIds as PoolFreeIds;
 use std::marker::Model;
@@ -18,17 +19,17 @@ pub struct FreeIds<'a> {
 // The free identifiers in the pool of a kind.
 #[derive(Drop)]
 pub(crate) enum Left<'a> {
-    Inst(PoolFreeIds<'a, InstEntry>),
+    Inst(PoolFreeIds<'a, NameCell<InstEntry>>),
     ITerm(PoolFreeIds<'a, ITermRec>),
-    Net(PoolFreeIds<'a, NetEntry>),
-    BTerm(PoolFreeIds<'a, BTermEntry>),
+    Net(PoolFreeIds<'a, NameCell<NetEntry>>),
+    BTerm(PoolFreeIds<'a, NameCell<BTermEntry>>),
     Pin(PoolFreeIds<'a, PinRec>),
-    Row(PoolFreeIds<'a, RowEntry>),
+    Row(PoolFreeIds<'a, NameCell<RowEntry>>),
     Track(PoolFreeIds<'a, TrackRec>),
     Wire(PoolFreeIds<'a, WireRec>),
     Blockage(PoolFreeIds<'a, BlockageRec>),
-    Region(PoolFreeIds<'a, RegionEntry>),
-    Group(PoolFreeIds<'a, GroupEntry>),
+    Region(PoolFreeIds<'a, NameCell<RegionEntry>>),
+    Group(PoolFreeIds<'a, NameCell<GroupEntry>>),
     Prop(PoolFreeIds<'a, PropRec>),
 }
 

@@ -8,9 +8,9 @@
 //! Each call is exact: one that writes says what becomes of the whole model, one that reads says what it answers of
 //! it. [`Block::room`] and [`Block::room_in`] alone take memory, and where they have made room the calls that need it
 //! can't fail. `take` and `give` with their ways back, the calls that set one field, and the reading of a record take
-//! a constant number of steps. [`Block::find`] looks at each slot of a table until it meets the name. A list is a
-//! vector: to enter or to leave it moves the members that stand behind, and a full one moves whole. [`Block::walk`],
-//! [`Block::ids`] and [`Block::free_ids`] take no memory.
+//! a constant number of steps, and so does [`Block::find`] on average: it compares a name with those that share its
+//! hash's bucket, one or two. A list is a vector: to enter or to leave it moves the members that stand behind, and a
+//! full one moves whole. [`Block::walk`], [`Block::ids`] and [`Block::free_ids`] take no memory.
 //!
 //! [`Block::with_tables`] makes a block of [`Tables`], plain vectors of slots and free identifiers. It judges nothing
 //! but what it asks for: whether the block is sound is for the crate `block_tables`.
@@ -25,6 +25,7 @@
 pub mod block;
 pub mod database;
 pub mod entry;
+mod entry_fields;
 mod every_kind;
 pub mod fault;
 pub mod fields;
@@ -53,7 +54,6 @@ pub use ids::Ids;
 pub use laws::names_and_finding;
 pub use list_of::ListOf;
 pub use live::Live;
-pub use names::Named;
 pub use next::NextIds;
 pub use tables::{PlainTable, Tables};
 pub use values::SITE_LIMIT;

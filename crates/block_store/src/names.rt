@@ -1,108 +1,140 @@
-ghost use Rattle.std.specs.Prelude.{◌≡◌, List, ℕ, option_copied};
-ghost use Rattle.block_store.specs.Names.{find_by, find_in, is_named, name_by, name_in};
+ghost use Rattle.std.specs.Prelude.{◌≡◌, option_copied};
+ghost use Rattle.named_pool.specs.Names.{name_by};
+ghost use Rattle.block_store.specs.Names.{find_in, name_in};
 
 use crate::block::Block;
 use crate::entry::{BTermEntry, GroupEntry, InstEntry, NetEntry, RegionEntry, RowEntry};
+use named_pool::{Named, NamedPool};
 use odb_base::{Kind, Name};
-use slot_pool::SlotPool;
-
-/// An object with a name.
-pub trait Named {
-    ghost own_name: { Self → List ℕ };
-
-    /// The name.
-    fn name(&self) -> &Name
-        ensures { result.now ≡ own_name self.now };
-}
+use std::mem;
 
 impl Named for InstEntry {
+    ghost use Rattle.std.specs.Prelude.{refl};
+
     ghost own_name = { λ e. e.fields.name };
+
+    ghost with_name = { λ name e. record e { fields = record e.fields { name = name } } };
 
     fn name(&self) -> &Name {
         &self.fields.name
     }
+
+    fn set_name(&mut self, name: Name) -> Name {
+        mem::replace(&mut self.fields.name, name)
+    }
+
+    ghost named = { λ e name. refl };
 }
 
 impl Named for NetEntry {
+    ghost use Rattle.std.specs.Prelude.{refl};
+
     ghost own_name = { λ e. e.fields.name };
+
+    ghost with_name = { λ name e. record e { fields = record e.fields { name = name } } };
 
     fn name(&self) -> &Name {
         &self.fields.name
     }
+
+    fn set_name(&mut self, name: Name) -> Name {
+        mem::replace(&mut self.fields.name, name)
+    }
+
+    ghost named = { λ e name. refl };
 }
 
 impl Named for BTermEntry {
+    ghost use Rattle.std.specs.Prelude.{refl};
+
     ghost own_name = { λ e. e.fields.name };
+
+    ghost with_name = { λ name e. record e { fields = record e.fields { name = name } } };
 
     fn name(&self) -> &Name {
         &self.fields.name
     }
+
+    fn set_name(&mut self, name: Name) -> Name {
+        mem::replace(&mut self.fields.name, name)
+    }
+
+    ghost named = { λ e name. refl };
 }
 
 impl Named for RowEntry {
+    ghost use Rattle.std.specs.Prelude.{refl};
+
     ghost own_name = { λ e. e.fields.name };
+
+    ghost with_name = { λ name e. record e { fields = record e.fields { name = name } } };
 
     fn name(&self) -> &Name {
         &self.fields.name
     }
+
+    fn set_name(&mut self, name: Name) -> Name {
+        mem::replace(&mut self.fields.name, name)
+    }
+
+    ghost named = { λ e name. refl };
 }
 
 impl Named for RegionEntry {
+    ghost use Rattle.std.specs.Prelude.{refl};
+
     ghost own_name = { λ e. e.fields.name };
+
+    ghost with_name = { λ name e. record e { fields = record e.fields { name = name } } };
 
     fn name(&self) -> &Name {
         &self.fields.name
     }
+
+    fn set_name(&mut self, name: Name) -> Name {
+        mem::replace(&mut self.fields.name, name)
+    }
+
+    ghost named = { λ e name. refl };
 }
 
 impl Named for GroupEntry {
+    ghost use Rattle.std.specs.Prelude.{refl};
+
     ghost own_name = { λ e. e.fields.name };
+
+    ghost with_name = { λ name e. record e { fields = record e.fields { name = name } } };
 
     fn name(&self) -> &Name {
         &self.fields.name
     }
-}
 
-// The first identifier in a pool whose object has this name.
-fn find_named<T: Named>(pool: &SlotPool<T>, name: &[u8]) -> Option<u32>
-    ensures { result ≡ find_by T.own_name name.now pool.now.table }
-{
-    for place in 0..pool.slots() {
-        if has_name(pool.get(place + 1), name) {
-            return Some(place + 1);
-        }
+    fn set_name(&mut self, name: Name) -> Name {
+        mem::replace(&mut self.fields.name, name)
     }
-    None
-}
 
-fn has_name<T: Named>(object: Option<&T>, name: &[u8]) -> bool
-    ensures { result ≡ is_named T.own_name name.now (option_copied object.entry) }
-{
-    match object {
-        Some(object) => object.name().bytes() == name,
-        None => false,
-    }
+    ghost named = { λ e name. refl };
 }
 
 // The name of an object in a pool.
-fn name_in_pool<T: Named>(pool: &SlotPool<T>, id: u32) -> Option<&Name>
+fn name_in_pool<T: Named>(pool: &NamedPool<T>, id: u32) -> Option<&Name>
     ensures { option_copied result ≡ name_by T.own_name id pool.now.table }
 {
     Some(pool.get(id)?.name())
 }
 
 impl Block {
-    /// The first object of a kind that has this name. Kinds without names have none.
+    /// The object of a kind that has this name. Kinds without names have none.
     pub fn find(&self, kind: Kind, name: &[u8]) -> Option<u32>
         ensures { result ≡ find_in kind name.now self.now.block }
     {
         match kind {
-            Kind::Inst => find_named(&self.pools.inst, name),
-            Kind::Net => find_named(&self.pools.net, name),
-            Kind::BTerm => find_named(&self.pools.bterm, name),
-            Kind::Row => find_named(&self.pools.row, name),
-            Kind::Region => find_named(&self.pools.region, name),
-            Kind::Group => find_named(&self.pools.group, name),
+            Kind::Inst => self.pools.inst.find(name),
+            Kind::Net => self.pools.net.find(name),
+            Kind::BTerm => self.pools.bterm.find(name),
+            Kind::Row => self.pools.row.find(name),
+            Kind::Region => self.pools.region.find(name),
+            Kind::Group => self.pools.group.find(name),
             Kind::ITerm | Kind::Pin | Kind::Track | Kind::Wire | Kind::Blockage | Kind::Prop =>
                 None,
         }

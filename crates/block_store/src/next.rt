@@ -1,6 +1,5 @@
 ghost use Rattle.std.specs.Iterator.{YieldsFirst, item_count};
 ghost use Rattle.std.specs.Prelude.{◌≡◌, ◌<◌, ◌≤◌, ◌^◌, length};
-ghost use Rattle.slot_pool.specs.Table.{takes_left};
 ghost use Rattle.block_store.specs.Block.{later_in, left_in};
 ghost use Rattle.block_store.specs.Upcoming.{upcoming_in};
 
@@ -8,7 +7,6 @@ use crate::block::Block;
 use crate::every_kind::by_kind;
 use crate::free_ids::FreeIds;
 use odb_base::Kind;
-use slot_pool::SlotPool;
 use std::marker::Model;
 
 /// The identifiers that the next new objects of a kind get, in their order. Contracts see their list.
@@ -66,7 +64,7 @@ impl Block {
         ensures within { result ≤ self.now.cap }
     {
         let pools = &self.pools;
-        by_kind!(pools, kind, table => left_of(table))
+        by_kind!(pools, kind, table => table.cap() - table.live_count())
     }
 
     /// The identifier that a new object of a kind gets after `k` further ones.
@@ -77,12 +75,4 @@ impl Block {
         let pools = &self.pools;
         by_kind!(pools, kind, table => table.next_id(k))
     }
-}
-
-// How many takes the cap of a pool still allows.
-fn left_of<T>(pool: &SlotPool<T>) -> u32
-    ensures left { result ≡ takes_left pool.now }
-    ensures within { result ≤ pool.now.cap }
-{
-    pool.cap() - pool.live_count()
 }

@@ -1,12 +1,14 @@
 ghost use Rattle.std.specs.Prelude.{◌≡◌, ◌≤◌, [], IfOk};
 ghost use Rattle.block_records.specs.Header.{new_header};
 ghost use Rattle.block_store.specs.Block.{empty_block};
-ghost use Rattle.block_store.specs.PlainTables.{AreTables};
+ghost use Rattle.named_pool.specs.Names.{AreNamed};
+ghost use Rattle.block_store.specs.PlainTables.{AreTables, HaveDistinctNames};
 ghost use Rattle.block_store.specs.Tables.{IsTable};
 
 use crate::entry::{BTermEntry, GroupEntry, InstEntry, NetEntry, RegionEntry, RowEntry};
 use crate::tables::{PlainTable, Tables};
 use block_records::{BlockageRec, Header, ITermRec, PinRec, PropRec, TrackRec, WireRec};
+use named_pool::{Named, NamedPool};
 use slot_pool::SlotPool;
 use std::alloc::{AllocError, Global};
 use std::marker::Model;
@@ -16,22 +18,22 @@ mod lists;
 mod objects;
 mod rooms;
 
-/// A header and one table for each kind, of which only this is known: each table is good, and within one cap. Contracts
-/// see a `Store`, as those of a block do.
+/// A header and one table for each kind, of which only this is known: each table is good, and within one cap, and no
+/// two objects of a kind have one name. Contracts see a `Store`, as those of a block do.
 #[derive(Drop)]
 pub(crate) struct Pools {
     pub(crate) header: Header,
-    pub(crate) inst: SlotPool<InstEntry>,
+    pub(crate) inst: NamedPool<InstEntry>,
     pub(crate) iterm: SlotPool<ITermRec>,
-    pub(crate) net: SlotPool<NetEntry>,
-    pub(crate) bterm: SlotPool<BTermEntry>,
+    pub(crate) net: NamedPool<NetEntry>,
+    pub(crate) bterm: NamedPool<BTermEntry>,
     pub(crate) pin: SlotPool<PinRec>,
-    pub(crate) row: SlotPool<RowEntry>,
+    pub(crate) row: NamedPool<RowEntry>,
     pub(crate) track: SlotPool<TrackRec>,
     pub(crate) wire: SlotPool<WireRec>,
     pub(crate) blockage: SlotPool<BlockageRec>,
-    pub(crate) region: SlotPool<RegionEntry>,
-    pub(crate) group: SlotPool<GroupEntry>,
+    pub(crate) region: NamedPool<RegionEntry>,
+    pub(crate) group: NamedPool<GroupEntry>,
     pub(crate) prop: SlotPool<PropRec>,
     pub(crate) cap: u32,
     // An empty vector, which takes the members of a list that is full and gets one more.
@@ -90,17 +92,17 @@ impl Pools {
     {
         Ok(Pools {
             header: Header::new(alloc)?,
-            inst: SlotPool::new(alloc, cap),
+            inst: NamedPool::new(alloc, cap),
             iterm: SlotPool::new(alloc, cap),
-            net: SlotPool::new(alloc, cap),
-            bterm: SlotPool::new(alloc, cap),
+            net: NamedPool::new(alloc, cap),
+            bterm: NamedPool::new(alloc, cap),
             pin: SlotPool::new(alloc, cap),
-            row: SlotPool::new(alloc, cap),
+            row: NamedPool::new(alloc, cap),
             track: SlotPool::new(alloc, cap),
             wire: SlotPool::new(alloc, cap),
             blockage: SlotPool::new(alloc, cap),
-            region: SlotPool::new(alloc, cap),
-            group: SlotPool::new(alloc, cap),
+            region: NamedPool::new(alloc, cap),
+            group: NamedPool::new(alloc, cap),
             prop: SlotPool::new(alloc, cap),
             cap,
             spare: Vec::new(alloc),
@@ -110,6 +112,7 @@ impl Pools {
     // The pools of these tables.
     pub(crate) fn with_tables(alloc: Global, tables: Tables, cap: u32) -> Result<Pools, AllocError>
         requires good { AreTables cap tables }
+        requires names { HaveDistinctNames tables }
         requires limit { cap ≤ 16777215 }
         ensures block { IfOk result (λ b. b.block ≡ tables) }
         ensures cap { IfOk result (λ b. b.cap ≡ cap) }
@@ -129,15 +132,17 @@ impl Pools {
             group,
             prop,
         } = tables;
-        let first = four_pools(inst, iterm, net, bterm, cap);
-        let second = four_pools(pin, row, track, wire, cap);
-        let third = four_pools(blockage, region, group, prop, cap);
-        match all(first, second, third) {
+        let first = three_named_pools(inst, net, bterm, cap);
+        let second = three_named_pools(row, region, group, cap);
+        let third = three_pools(iterm, pin, track, cap);
+        let fourth = three_pools(wire, blockage, prop, cap);
+        match all(first, second, third, fourth) {
             Ok(pools) => {
-                let (first, second, third) = pools;
-                let (inst, iterm, net, bterm) = first;
-                let (pin, row, track, wire) = second;
-                let (blockage, region, group, prop) = third;
+                let (first, second, third, fourth) = pools;
+                let (inst, net, bterm) = first;
+                let (row, region, group) = second;
+                let (iterm, pin, track) = third;
+                let (wire, blockage, prop) = fourth;
                 Ok(Pools {
                     header,
                     inst,
@@ -164,37 +169,52 @@ impl Pools {
     }
 }
 
-// Four tables at a time: where memory is wanted, all that was made before has to be given back, and the fewer ways
+// Three tables at a time: where memory is wanted, all that was made before has to be given back, and the fewer ways
 // there are out of a call, the shorter is its proof.
-fn four_pools<A: Drop, B: Drop, C: Drop, D: Drop>(
+fn three_pools<A: Drop, B: Drop, C: Drop>(
     a: PlainTable<A>,
     b: PlainTable<B>,
     c: PlainTable<C>,
-    d: PlainTable<D>,
     cap: u32,
-) -> Result<(SlotPool<A>, SlotPool<B>, SlotPool<C>, SlotPool<D>), AllocError>
+) -> Result<(SlotPool<A>, SlotPool<B>, SlotPool<C>), AllocError>
     requires first { IsTable cap a }
     requires second { IsTable cap b }
     requires third { IsTable cap c }
-    requires fourth { IsTable cap d }
-    ensures tables { IfOk result (λ pools. (pools.0.table ≡ a) × (pools.1.table ≡ b) × (pools.2.table ≡ c) × (pools.3.table ≡ d)) }
-    ensures caps { IfOk result (λ pools. (pools.0.cap ≡ cap) × (pools.1.cap ≡ cap) × (pools.2.cap ≡ cap) × (pools.3.cap ≡ cap)) }
+    ensures tables { IfOk result (λ pools. (pools.0.table ≡ a) × (pools.1.table ≡ b) × (pools.2.table ≡ c)) }
+    ensures caps { IfOk result (λ pools. (pools.0.cap ≡ cap) × (pools.1.cap ≡ cap) × (pools.2.cap ≡ cap)) }
+{
+    Ok((a.into_pool(cap)?, b.into_pool(cap)?, c.into_pool(cap)?))
+}
+
+// Three tables of objects with names.
+fn three_named_pools<A: Named + Drop, B: Named + Drop, C: Named + Drop>(
+    a: PlainTable<A>,
+    b: PlainTable<B>,
+    c: PlainTable<C>,
+    cap: u32,
+) -> Result<(NamedPool<A>, NamedPool<B>, NamedPool<C>), AllocError>
+    requires first { IsTable cap a }
+    requires second { IsTable cap b }
+    requires third { IsTable cap c }
+    requires names { AreNamed A.own_name a × AreNamed B.own_name b × AreNamed C.own_name c }
+    ensures tables { IfOk result (λ pools. (pools.0.table ≡ a) × (pools.1.table ≡ b) × (pools.2.table ≡ c)) }
+    ensures caps { IfOk result (λ pools. (pools.0.cap ≡ cap) × (pools.1.cap ≡ cap) × (pools.2.cap ≡ cap)) }
 {
     Ok((
-        a.into_pool(cap)?,
-        b.into_pool(cap)?,
-        c.into_pool(cap)?,
-        d.into_pool(cap)?,
+        a.into_named_pool(cap)?,
+        b.into_named_pool(cap)?,
+        c.into_named_pool(cap)?,
     ))
 }
 
-// All three, where there was memory for each.
-fn all<A: Drop, B: Drop, C: Drop>(
+// All four, where there was memory for each.
+fn all<A: Drop, B: Drop, C: Drop, D: Drop>(
     a: Result<A, AllocError>,
     b: Result<B, AllocError>,
     c: Result<C, AllocError>,
-) -> Result<(A, B, C), AllocError>
-    ensures { IfOk result (λ all. (a ≡ Ok all.0) × (b ≡ Ok all.1) × (c ≡ Ok all.2)) }
+    d: Result<D, AllocError>,
+) -> Result<(A, B, C, D), AllocError>
+    ensures { IfOk result (λ all. (a ≡ Ok all.0) × (b ≡ Ok all.1) × (c ≡ Ok all.2) × (d ≡ Ok all.3)) }
 {
-    Ok((a?, b?, c?))
+    Ok((a?, b?, c?, d?))
 }

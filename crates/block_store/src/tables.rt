@@ -1,11 +1,13 @@
 ghost use Rattle.std.specs.Prelude.{◌≡◌, ◌↔◌, IfOk, IsTrue, option_copied};
 ghost use Rattle.slot_pool.specs.Table.{record_at};
+ghost use Rattle.named_pool.specs.Names.{AreNamed};
 ghost use Rattle.block_store.specs.Block.{empty_table, slots_in};
 ghost use Rattle.block_store.specs.Tables.{IsTable};
 
 use crate::entry::{BTermEntry, GroupEntry, InstEntry, NetEntry, RegionEntry, RowEntry};
 use crate::every_kind::by_kind;
 use block_records::{BlockageRec, Header, ITermRec, PinRec, PropRec, TrackRec, WireRec};
+use named_pool::{Named, NamedPool};
 use odb_base::Kind;
 use slot_pool::SlotPool;
 use std::alloc::AllocError;
@@ -67,6 +69,19 @@ impl<T: Drop> PlainTable<T> {
     {
         let PlainTable { slots, free } = self;
         SlotPool::from_parts(slots, free, cap)
+    }
+}
+
+impl<T: Named + Drop> PlainTable<T> {
+    // The pool of the table, in which objects are found by their names.
+    pub(crate) fn into_named_pool(self, cap: u32) -> Result<NamedPool<T>, AllocError>
+        requires good { IsTable cap self }
+        requires names { AreNamed T.own_name self }
+        ensures table { IfOk result (λ pool. pool.table ≡ self) }
+        ensures cap { IfOk result (λ pool. pool.cap ≡ cap) }
+    {
+        let PlainTable { slots, free } = self;
+        NamedPool::from_parts(slots, free, cap)
     }
 }
 

@@ -6,7 +6,7 @@ use Rattle.std.proofs.lemmas.Bool.Decides.{nat_tests}
 use Rattle.std.proofs.lemmas.List.Sums.{get_or-le-sum_by, sum_by-cons}
 use Rattle.std.proofs.lemmas.Slice.Eq.{bytes_eq-Decides}
 use Rattle.slot_pool.specs.Table.{Table, record_at}
-use Rattle.block_store.specs.Names.{is_named, name_by}
+use Rattle.named_pool.specs.Names.{is_named, name_by}
 use Rattle.block_tables.specs.Names.{IsAlone}
 use Rattle.block_tables.proofs.Standings.{past_none}
 

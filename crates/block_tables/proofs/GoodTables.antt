@@ -6,7 +6,7 @@ use Rattle.std.proofs.lemmas.List.{get_or_default}
 use Rattle.slot_pool.specs.Table.{IsGood, is_vacant, once_if, times}
 use Rattle.slot_pool.proofs.Counts.{times_cons_other, vacant_within}
 use Rattle.slot_pool.proofs.GoodTables.{free_ids_are_vacant}
-use Rattle.block_store.proofs.Slots.{record_at_place}
+use Rattle.named_pool.proofs.Finding.{record_at_place}
 use Rattle.block_tables.specs.Counting.{often}
 
 -- what a list holds stands at some place

@@ -17,7 +17,8 @@ use Rattle.block_store.specs.Kinds.{Entry, table_of}
 use Rattle.block_store.specs.Lens.{Lens}
 use Rattle.block_store.specs.Lists.{bterm_number, iterm_number, list_in}
 use Rattle.block_store.specs.Sound.{IsSound, bterm_net, iterm_net, net_terms}
-use Rattle.block_store.specs.Tables.{AreNamed, HasDistinctNames, IsTable}
+use Rattle.named_pool.specs.Names.{AreNamed}
+use Rattle.block_store.specs.Tables.{HasDistinctNames, IsTable}
 use Rattle.block_store.specs.View.{laws}
 use Rattle.block_store.proofs.Changed.{parts_by}
 use Rattle.block_store.proofs.Joined.{bterms_held, iterms_held, terms_placed}

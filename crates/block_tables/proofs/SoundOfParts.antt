@@ -17,7 +17,8 @@ use Rattle.block_store.specs.Lens.{Lens}
 use Rattle.block_store.specs.Lists.{bterm_number, iterm_number, list_in}
 use Rattle.block_store.specs.Sorts.{AreHeld, BTermsOfNet, ITermsOfNet, IsHeld, Sort, list_of, owner_of}
 use Rattle.block_store.specs.Sound.{IsKind, IsSound, bterm_net, inst_terms, iterm_net, iterm_place, net_terms}
-use Rattle.block_store.specs.Tables.{AreNamed, HasDistinctNames}
+use Rattle.named_pool.specs.Names.{AreNamed}
+use Rattle.block_store.specs.Tables.{HasDistinctNames}
 use Rattle.block_store.specs.TermPlaces.{ArePlaced, place_of, terminals_of}
 use Rattle.block_store.specs.View.{laws, view}
 use Rattle.block_store.proofs.Changed.{kind_coming, parts_by}

@@ -4,7 +4,7 @@ use Rattle.std.specs.Borrow.{Bor}
 use Rattle.std.specs.HashMap.{HashMap}
 use Rattle.std.specs.Str.{bytes_eq}
 use Rattle.block_store.specs.Block.{Block}
-use Rattle.block_store.specs.Names.{is_named}
+use Rattle.named_pool.specs.Names.{is_named}
 use Rattle.block_store.specs.Sound.{net_terms}
 use Rattle.block_tables.specs.Counting.{holders_in, often}
 use Rattle.block_tables.specs.RuleNets.{term_net}

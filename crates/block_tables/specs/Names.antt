@@ -2,7 +2,7 @@
 use Rattle.std.specs.Prelude.{◌≡◌, List, ℕ, Option, None, Some}
 use Rattle.slot_pool.specs.Table.{Table}
 use Rattle.block_store.specs.Lens.{Lens}
-use Rattle.block_store.specs.Names.{name_by}
+use Rattle.named_pool.specs.Names.{name_by}
 
 module _ {A : Type 0} where
   -- no other object of the table has the name

@@ -1,12 +1,13 @@
 ghost use Rattle.std.specs.Prelude.{◌≡◌, ◌↔◌, ◌+◌, List, ℕ, IfOk, IsTrue, OnOk, min, if◌then◌else◌};
 ghost use Rattle.slot_pool.specs.Table.{record_at};
-ghost use Rattle.block_store.specs.Names.{is_named};
+ghost use Rattle.named_pool.specs.Names.{is_named};
 ghost use Rattle.block_tables.specs.Counting.{holders_in};
 ghost use Rattle.block_tables.specs.Indexes.{CountsHolders};
 ghost use Rattle.block_tables.specs.Names.{IsAlone};
 
 use crate::holders::Holders;
-use block_store::{Named, PlainTable};
+use block_store::PlainTable;
+use named_pool::Named;
 use std::alloc::{AllocError, Global};
 
 // How many objects in the slots have each name.

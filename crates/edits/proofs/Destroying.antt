@@ -23,8 +23,8 @@ use Rattle.block_store.specs.declared.list_of.ListOf.TheVariants as list
 use Rattle.block_store.specs.Sound.{IsSound, bterm_net, inst_terms, iterm_net, net_terms}
 use Rattle.block_store.proofs.Held.{held_names}
 use Rattle.block_store.proofs.Joined.{bterms_held, iterms_held, some_is, terms_placed}
-use Rattle.block_store.proofs.Shown.{from_one, live_on, live_record, view_at_on, view_other_on}
-use Rattle.block_store.proofs.TableLemmas.{at_on}
+use Rattle.slot_pool.proofs.Mapped.{at_on, live_record}
+use Rattle.block_store.proofs.Shown.{from_one, live_on, view_at_on, view_other_on}
 use Rattle.steps_net.specs.Can.{CanPart}
 use Rattle.steps_net.specs.Do.{do_step}
 use Rattle.steps_net.proofs.Joining.{sound_part}

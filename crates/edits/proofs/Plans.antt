@@ -51,8 +51,7 @@ use Rattle.block_store.specs.Moves.{new_bterm}
 use Rattle.block_store.specs.Placements.{IsPlacement}
 use Rattle.block_store.proofs.Joined.{shown_by}
 use Rattle.block_store.proofs.Naming.{free_names_are_not_found}
-use Rattle.block_store.proofs.Shown.{live_record}
-use Rattle.block_store.proofs.TableLemmas.{at_taken}
+use Rattle.slot_pool.proofs.Mapped.{at_taken, live_record}
 use Rattle.edits.specs.Planning.{IsPlanned}
 use Rattle.edits.proofs.Destroying.{destroyed}
 use Rattle.edits.proofs.Placing.{lawful_placement}

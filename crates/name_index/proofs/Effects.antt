@@ -18,7 +18,7 @@ pub held_some : (cell : ℕ → Bool) (name : ℕ → List ℕ) (chain : ℕ →
 held_some cell name chain index names stands bytes id h = let some = some_len names bytes id h in omega (arith, some, stands.counted)
 
 -- one name fewer is room for one more
-pub spare_dropped : (heads heads' : List ℕ) (held : ℕ) → length heads' ≡ length heads → 1 ≤ held → held ≤ length heads → (length heads - held) + 1 ≤ length heads' - (held - 1)
+pub spare_dropped : (heads heads' : List ℕ) (held : ℕ) → length heads' ≡ length heads → 1 ≤ held → held ≤ length heads → length heads' - (held - 1) ≡ (length heads - held) + 1
 spare_dropped heads heads' held same some fits = omega arith
 
 module _ {Cells : Type 0} (with_chain : Cells → ℕ → ℕ → Cells) (cell : Cells → ℕ → Bool) (name_of : Cells → ℕ → List ℕ) (chain_of : Cells → ℕ → ℕ)

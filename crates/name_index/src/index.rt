@@ -102,7 +102,7 @@ impl NameIndex {
         requires room { 1 ≤ spare self.old }
         ensures stands { Stands (C.cell cells.new) (C.name_of cells.new) (C.chain_of cells.new)
             self.new (map.insert names (C.name_of cells.old id) id) }
-        ensures spare { spare self.old ≤ spare self.new + 1 }
+        ensures spare { spare self.old ≡ spare self.new + 1 }
         ensures kept { (other : ℕ) → C.cell cells.new other ≡ C.cell cells.old other }
         ensures named { (other : ℕ) → C.name_of cells.new other ≡ C.name_of cells.old other }
         ensures cells { Rechained C.with_chain (λ other. other ≡ id) cells.old cells.new }
@@ -127,7 +127,7 @@ impl NameIndex {
         requires held { map.get names (C.name_of cells.old id) ≡ Some id }
         ensures stands { Stands (C.cell cells.new) (C.name_of cells.new) (C.chain_of cells.new)
             self.new (map.remove names (C.name_of cells.old id)) }
-        ensures spare { spare self.old + 1 ≤ spare self.new }
+        ensures spare { spare self.new ≡ spare self.old + 1 }
         ensures kept { (other : ℕ) → C.cell cells.new other ≡ C.cell cells.old other }
         ensures named { (other : ℕ) → C.name_of cells.new other ≡ C.name_of cells.old other }
         ensures cells { Rechained C.with_chain (HasId names) cells.old cells.new }

@@ -10,7 +10,7 @@ use Rattle.named_pool.specs.NameLaws.{FoundHaveTheName, FreeNamesAreNotFound, Na
 use Rattle.named_pool.specs.Names.{IsFree, find_by, is_named, name_by}
 
 -- the record of the id of a place is the content of its slot
-record_at_place : {A : Type 0} (t : Table A) (place : ℕ) → record_at t (place + 1) ≡ get_or t.slots place None
+pub record_at_place : {A : Type 0} (t : Table A) (place : ℕ) → record_at t (place + 1) ≡ get_or t.slots place None
 record_at_place t place =
     let some : eqb (place + 1) 0 ≡ false = grind (arith, nat_tests) in
     let same : place + 1 - 1 ≡ place = omega arith in

@@ -71,11 +71,11 @@ module _ {R : Type 0} (own : R → List ℕ) (old new : NameCells R) (index : In
         not_held own new index (held own new index) id (name_of own new id) entered_but
         (λ other apart h. free other (sym (names_same_but own old new id other same_but_next apart) ∙ h ∙ ap Some entered_name))
 
-    entered_room : (free : ℕ) (index' : Index) → free ≡ length old.pool.table.free - 1 → spare index ≤ spare index' + 1 → free ≤ spare index'
+    entered_room : (free : ℕ) (index' : Index) → free ≡ length old.pool.table.free - 1 → spare index ≡ spare index' + 1 → free ≤ spare index'
     entered_room free index' e fewer = omega (arith, e, fewer, is.room)
 
     -- with its name added, all objects are held
-    pub entered_is : (last : NameCells R) (index' : Index) (Of : ℕ → Type 0) → IsFree own (own x) (objects old) → Rechained with_chain Of new last → ((other : ℕ) → cell last other ≡ cell new other) → ((other : ℕ) → name_of own last other ≡ name_of own new other) → spare index ≤ spare index' + 1 →
+    pub entered_is : (last : NameCells R) (index' : Index) (Of : ℕ → Type 0) → IsFree own (own x) (objects old) → Rechained with_chain Of new last → ((other : ℕ) → cell last other ≡ cell new other) → ((other : ℕ) → name_of own last other ≡ name_of own new other) → spare index ≡ spare index' + 1 →
         Stands (cell last) (name_of own last) (chain_of last) index' (insert (held own new index) (name_of own new id) id) → IsNamed own last index'
     entered_is last index' Of free rechained kept named fewer stands =
         is_held own last index' (insert (held own new index) (name_of own new id) id)
@@ -85,7 +85,7 @@ module _ {R : Type 0} (own : R → List ℕ) (old new : NameCells R) (index : In
 
   -- The name of an object goes.
   module _ (id : ℕ) (index' : Index) (Of : ℕ → Type 0) (is : IsNamed own old index) (is_cell : cell old id ≡ true) (rechained : Rechained with_chain Of old new) (kept : (other : ℕ) → cell new other ≡ cell old other) (named : (other : ℕ) → name_of own new other ≡ name_of own old other)
-      (stands : Stands (cell new) (name_of own new) (chain_of new) index' (remove names (name_of own old id))) (more : spare index + 1 ≤ spare index') where
+      (stands : Stands (cell new) (name_of own new) (chain_of new) index' (remove names (name_of own old id))) (more : spare index' ≡ spare index + 1) where
     left_but : AreHeldBut own new index' (remove names (name_of own old id)) id
     left_but = dropped own old new index index' names id is_cell kept named stands (are_held own old index is)
 
@@ -137,7 +137,7 @@ module _ {R : Type 0} (own : R → List ℕ) (old new : NameCells R) (index : In
 -- The name of an object is dropped, the object gets another, and that is added.
 module _ {R : Type 0} (own : R → List ℕ) (old new last : NameCells R) (index index' : Index) (id : ℕ) (was now : NameCell R) (Of : ℕ → Type 0) (is : IsNamed own old index) (is_cell : cell old id ≡ true)
     (rechained : Rechained with_chain Of old new) (kept : (other : ℕ) → cell new other ≡ cell old other) (named : (other : ℕ) → name_of own new other ≡ name_of own old other)
-    (stands : Stands (cell new) (name_of own new) (chain_of new) index' (remove (held own old index) (name_of own old id))) (more : spare index + 1 ≤ spare index')
+    (stands : Stands (cell new) (name_of own new) (chain_of new) index' (remove (held own old index) (name_of own old id))) (more : spare index' ≡ spare index + 1)
     (found : record_at new.pool.table id ≡ Some was) (moved : last.pool.table ≡ replaced id now new.pool.table) where
   same_but_renamed : SameBut new last id
   same_but_renamed = same_but_changed own new last index id was now found moved
@@ -158,7 +158,7 @@ module _ {R : Type 0} (own : R → List ℕ) (old new last : NameCells R) (index
       not_held own last index' (held own last index') id (name_of own last id) renamed_but
       (λ other apart h. apart (free other (ap (name_by own other) (sym shown) ∙ sym (names_same_but own new last id other same_but_renamed apart) ∙ h ∙ ap Some name)))
 
-  pub renamed_is : (final : NameCells R) (last_index : Index) (On : ℕ → Type 0) → IsFreeBut own id (own now.value) (objects old) → Rechained with_chain On last final → ((other : ℕ) → cell final other ≡ cell last other) → ((other : ℕ) → name_of own final other ≡ name_of own last other) → spare index' ≤ spare last_index + 1 →
+  pub renamed_is : (final : NameCells R) (last_index : Index) (On : ℕ → Type 0) → IsFreeBut own id (own now.value) (objects old) → Rechained with_chain On last final → ((other : ℕ) → cell final other ≡ cell last other) → ((other : ℕ) → name_of own final other ≡ name_of own last other) → spare index' ≡ spare last_index + 1 →
       Stands (cell final) (name_of own final) (chain_of final) last_index (insert (held own last index') (name_of own last id) id) → IsNamed own final last_index
   renamed_is final last_index On free rechained' kept' named' fewer stands' =
       let same : length final.pool.table.free ≡ length old.pool.table.free =

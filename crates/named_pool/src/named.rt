@@ -40,4 +40,7 @@ pub trait Field<R: Named> {
 
     /// The object keeps its name.
     ghost named: { (object : R) (value : Self.Value) → R.own_name (with_value value object) ≡ R.own_name object };
+
+    /// Of two values that are set the last one stands.
+    ghost last: { (object : R) (first second : Self.Value) → with_value second (with_value first object) ≡ with_value second object };
 }

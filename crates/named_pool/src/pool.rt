@@ -33,7 +33,7 @@ impl<R: Named> NamedPool<R> {
     ghost use Rattle.slot_pool.specs.Mapped.{on_record};
     ghost use Rattle.slot_pool.specs.Table.{IsGood, IsSpareBounded, CanUntake, CanUngive};
     ghost use Rattle.slot_pool.specs.Table.{record_at, is_live, live_count, next_id, takes_left};
-    ghost use Rattle.slot_pool.specs.Table.{taken, given, untaken, ungiven};
+    ghost use Rattle.slot_pool.specs.Table.{once_more, taken, given, untaken, ungiven};
     ghost use Rattle.named_pool.specs.Names.{AreNamed, IsFree, IsFreeBut, find_by};
 
     /// A pool with no slots, which will have at most `cap`. It takes no memory.
@@ -227,7 +227,7 @@ impl<R: Named> NamedPool<R> {
         ensures value { option_map R.own_name (record_at self.old.table id) ≡ Some result }
         ensures table { self.new.table ≡ on_record (R.with_name name) id self.old.table }
         ensures cap { self.new.cap ≡ self.old.cap }
-        ensures spare { self.old.spare ≤ self.new.spare }
+        ensures spare { self.new.spare ≡ self.old.spare }
         ensures least { moves.old ≤ moves.new }
         ensures most { moves.new ≤ moves.old + 4 }
     {
@@ -249,6 +249,7 @@ impl<R: Named> NamedPool<R> {
         ensures table { self.new.table ≡ on_record (F.with_value value) id self.old.table }
         ensures cap { self.new.cap ≡ self.old.cap }
         ensures spare { self.new.spare ≡ self.old.spare }
+        ensures moved { self.new.moved ≡ once_more self.old.moved }
         ensures moves { moves.new ≡ moves.old + 1 }
     {
         F::set(&mut self.cells.pool.change(id, moves).value, value)

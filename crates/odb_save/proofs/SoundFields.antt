@@ -52,7 +52,7 @@ use Rattle.block_store.proofs.TableLemmas.{none_in_empty}
 use Rattle.block_store.proofs.Held.{times_held}
 use Rattle.block_store.proofs.Joined.{bterm_inside, bterms_held, iterm_inside, iterms_held, net_of_member, number_is, shown_by, terms_distinct, terms_placed}
 use Rattle.block_store.proofs.Shown.{from_one, live_by}
-use Rattle.block_store.proofs.Slots.{record_at_place}
+use Rattle.named_pool.proofs.Finding.{record_at_place}
 use Rattle.library.specs.Masters.{master_at}
 use Rattle.library.specs.declared.master.Master.{Master}
 use Rattle.library.specs.declared.mterm.MTerm.{MTerm}

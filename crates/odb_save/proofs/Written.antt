@@ -8,7 +8,7 @@ use Rattle.odb_fields.specs.Fields.{u32_bytes}
 use Rattle.slot_pool.specs.Table.{Table, record_at}
 use Rattle.block_store.specs.Block.{Block, free_in, slots_in}
 use Rattle.block_store.specs.Kinds.{table_of}
-use Rattle.block_store.proofs.Slots.{record_at_place}
+use Rattle.named_pool.proofs.Finding.{record_at_place}
 use Rattle.odb_save.specs.Kinds.{saved_as, slot_in, slots_behind, table_in}
 use Rattle.saved_fields.specs.Bytes.{list_bytes, option_bytes, table_bytes}
 use Rattle.saved_reader.specs.Objects.{inst_format}

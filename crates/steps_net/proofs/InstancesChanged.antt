@@ -16,7 +16,8 @@ use Rattle.block_store.specs.Lists.{iterm_number, list_in}
 use Rattle.block_store.specs.Instances.{IsInst}
 use Rattle.block_store.specs.Sorts.{BTermsOfNet, ITermsOfNet, IsHeld, Sort, list_of, owner_of}
 use Rattle.block_store.specs.Sound.{IsKind, IsSound, iterm_net}
-use Rattle.block_store.specs.Tables.{AreEach, AreNamed, IsTable}
+use Rattle.named_pool.specs.Names.{AreNamed}
+use Rattle.block_store.specs.Tables.{AreEach, IsTable}
 use Rattle.block_store.specs.TermPlaces.{ArePlaced, place_of, terminals_of}
 use Rattle.block_store.specs.View.{view}
 use Rattle.block_store.proofs.Changed.{parts_by, sound_beside}

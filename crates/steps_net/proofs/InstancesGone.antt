@@ -18,8 +18,9 @@ use Rattle.block_store.specs.Instances.{IsInst}
 use Rattle.block_store.specs.Sound.{IsSound, inst_terms, iterm_net, iterm_place}
 use Rattle.block_store.specs.TermPlaces.{ArePlaced}
 use Rattle.block_store.proofs.Joined.{iterm_outside, shown_by, terms_placed}
-use Rattle.block_store.proofs.Shown.{each_given, live_record, name_gone, named_given, table_given}
-use Rattle.block_store.proofs.TableLemmas.{at_given, at_given_other, back_given}
+use Rattle.slot_pool.proofs.Mapped.{at_given, at_given_other, live_record}
+use Rattle.block_store.proofs.Shown.{each_given, name_gone, named_given, table_given}
+use Rattle.block_store.proofs.TableLemmas.{back_given}
 use Rattle.steps_net.specs.Back.{back, memo_of, removed}
 use Rattle.steps_net.specs.Can.{AreUnjoined, CanDel}
 use Rattle.steps_net.specs.Do.{do_step, fresh_iterm, terms_given, terms_taken}

@@ -20,7 +20,8 @@ use Rattle.block_store.specs.Tables.{IsTable}
 use Rattle.block_store.specs.TermPlaces.{ArePlaced}
 use Rattle.block_store.proofs.Joined.{iterm_outside, shown_by, terms_placed}
 use Rattle.block_store.proofs.Shown.{each_taken, named_taken, table_taken}
-use Rattle.block_store.proofs.TableLemmas.{at_next, at_taken, at_taken_other, back_taken, can_untake}
+use Rattle.slot_pool.proofs.Mapped.{at_next, at_taken, at_taken_other}
+use Rattle.block_store.proofs.TableLemmas.{back_taken, can_untake}
 use Rattle.steps_net.specs.Back.{Came, back, grew_of, grown_of, memo_of, terms_untaken}
 use Rattle.steps_net.specs.Can.{AreNext, CanNewInst}
 use Rattle.steps_net.specs.Do.{do_step, fresh_inst, terms_taken}

@@ -11,7 +11,8 @@ use Rattle.slot_pool.specs.Table.{CanUntake, IsGood, Table, given, is_live, next
 use Rattle.slot_pool.proofs.Counts.{vacant_within}
 use Rattle.slot_pool.proofs.Tables.{IsGood-taken, top_is}
 use Rattle.block_store.specs.Block.{is_empty}
-use Rattle.block_store.proofs.TableLemmas.{at_given, at_given_other, at_next, at_taken, at_taken_other, back_given, back_taken, can_untake, good_given, good_taken, slots_given, slots_taken}
+use Rattle.slot_pool.proofs.Mapped.{at_given, at_given_other, at_next, at_taken, at_taken_other}
+use Rattle.block_store.proofs.TableLemmas.{back_given, back_taken, can_untake, good_given, good_taken, slots_given, slots_taken}
 use Rattle.steps_net.specs.Back.{terms_untaken}
 use Rattle.steps_net.specs.Can.{AreNext}
 use Rattle.steps_net.specs.Do.{fresh_iterm, terms_given, terms_taken}

@@ -16,14 +16,16 @@ use Rattle.block_store.specs.declared.entry.NetEntry.{NetEntry}
 use Rattle.block_store.specs.declared.list_of.ListOf.TheVariants as list
 use Rattle.block_store.specs.Block.{Block, live_in}
 use Rattle.block_store.specs.Fields.{HasNet, net_in}
-use Rattle.block_store.specs.Lists.{bterm_number, iterm_number, list_in, on_list, on_record, term_number}
+use Rattle.slot_pool.specs.Mapped.{on_record}
+use Rattle.block_store.specs.Lists.{bterm_number, iterm_number, list_in, on_list, term_number}
 use Rattle.block_store.specs.Moves.{with_net}
 use Rattle.block_store.specs.Sorts.{BTermsOfNet, ITermsOfNet, Sort, list_of, owner_of, sort}
 use Rattle.block_store.specs.Sound.{IsSound, net_terms}
 use Rattle.block_store.specs.View.{view}
 use Rattle.block_store.proofs.Joined.{bterm_enters, bterm_inside, bterm_seen, iterm_enters, iterm_inside, iterm_seen, net_of_member, net_shown, none_is, shown_by, some_is, terms_distinct, terms_seen}
 use Rattle.block_store.proofs.MovedMembers.{back_entered, back_left, left, member_inside, returned, sound_entered, sound_left}
-use Rattle.block_store.proofs.Shown.{from_one, live_by, live_on, live_record, view_at_on}
+use Rattle.slot_pool.proofs.Mapped.{live_record}
+use Rattle.block_store.proofs.Shown.{from_one, live_by, live_on, view_at_on}
 use Rattle.steps_net.specs.Can.{CanJoin, CanPart}
 use Rattle.steps_net.specs.Terms.{IsJoinable, IsJoined}
 

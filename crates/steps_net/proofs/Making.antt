@@ -23,8 +23,9 @@ use Rattle.block_store.specs.Tables.{HasDistinctNames}
 use Rattle.block_store.specs.View.{laws, view}
 use Rattle.block_store.proofs.Changed.{HasNewName, back_gone, back_made, parts_by, sound_gone, sound_made}
 use Rattle.block_store.proofs.Joined.{bterm_seen, net_shown, shown_by, terms_seen}
-use Rattle.block_store.proofs.Shown.{live_by, live_record, name_gone}
-use Rattle.block_store.proofs.TableLemmas.{at_next, at_taken, can_untake}
+use Rattle.slot_pool.proofs.Mapped.{at_next, at_taken, live_record}
+use Rattle.block_store.proofs.Shown.{live_by, name_gone}
+use Rattle.block_store.proofs.TableLemmas.{can_untake}
 use Rattle.steps_net.specs.Back.{grew_of, grown_by, record_moved, removed, undeleted, unmade_at}
 use Rattle.steps_net.specs.Can.{CanDel, CanMake, CanNew, new_entry}
 use Rattle.steps_net.specs.Do.{made_in}

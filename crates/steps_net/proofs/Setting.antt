@@ -18,9 +18,10 @@ use Rattle.block_store.specs.Block.{Block, live_in}
 use Rattle.block_store.specs.Fields.{direction_in, place_in, special_in, usage_in}
 use Rattle.block_store.specs.Kinds.{Entry, on_entry, table, table_of}
 use Rattle.block_store.specs.Lens.{Lens}
-use Rattle.block_store.specs.Lists.{on_record}
+use Rattle.slot_pool.specs.Mapped.{on_record}
 use Rattle.block_store.specs.Moves.{with_direction, with_name, with_place, with_special, with_usage}
-use Rattle.block_store.specs.Names.{IsFreeBut, name_by, name_in}
+use Rattle.named_pool.specs.Names.{name_by}
+use Rattle.block_store.specs.Names.{IsFreeBut, name_in}
 use Rattle.block_store.specs.Placements.{unplaced}
 use Rattle.block_store.specs.Sound.{IsSound}
 use Rattle.block_store.specs.Tables.{HasDistinctNames}
@@ -28,7 +29,8 @@ use Rattle.block_store.specs.View.{laws}
 use Rattle.block_store.proofs.Changed.{parts_by, sound_renamed}
 use Rattle.block_store.proofs.OneTable.{live_stays}
 use Rattle.block_store.proofs.SetFields.{BTermDirection, BTermUsage, InstPlace, NetSpecial, NetUsage, PinPlace, entry_back, field, field_back, sound_field}
-use Rattle.block_store.proofs.Shown.{live_record, name_left}
+use Rattle.slot_pool.proofs.Mapped.{live_record}
+use Rattle.block_store.proofs.Shown.{name_left}
 use Rattle.steps_net.specs.Can.{CanPlace, CanRename, CanSetUse}
 use Rattle.steps_net.proofs.OfKinds.{MayBeNamed, may_be_named}
 

@@ -14,14 +14,16 @@ use Rattle.edit_words.specs.Tag.{tag_of}
 use Rattle.edit_words.specs.declared.step.Step.TheVariants as step
 use Rattle.block_store.specs.declared.entry.InstEntry.{InstEntry}
 use Rattle.block_store.specs.Block.{Block}
-use Rattle.block_store.specs.Lists.{list_in, on_record}
+use Rattle.slot_pool.specs.Mapped.{on_record}
+use Rattle.block_store.specs.Lists.{list_in}
 use Rattle.block_store.specs.Instances.{IsInst}
 use Rattle.block_store.specs.Sound.{IsSound, inst_terms, iterm_place}
 use Rattle.block_store.specs.TermPlaces.{ArePlaced}
 use Rattle.block_store.proofs.Joined.{none_is, shown_by, some_is, terms_placed}
-use Rattle.block_store.proofs.Shown.{each_on, live_by, live_on, named_stands, table_on, view_at_on, view_on}
+use Rattle.slot_pool.proofs.Mapped.{at_on, at_on_other, view_on}
+use Rattle.block_store.proofs.Shown.{each_on, live_by, live_on, named_stands, table_on, view_at_on}
 use Rattle.library.proofs.TerminalNames.{found_terminals_are_named}
-use Rattle.block_store.proofs.TableLemmas.{at_on, at_on_other, on_on, on_same}
+use Rattle.block_store.proofs.TableLemmas.{on_on, on_same}
 use Rattle.steps_net.specs.Back.{back, master_of, memo_of}
 use Rattle.steps_net.specs.Can.{CanSwap, inst_master}
 use Rattle.steps_net.specs.Do.{do_step, fresh_iterm, reordered, reordered_by, swapped, terms_given}

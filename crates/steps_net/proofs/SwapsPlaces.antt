@@ -7,14 +7,15 @@ use Rattle.block_records.specs.declared.iterm.ITermRec.{ITermRec}
 use Rattle.block_store.specs.declared.entry.InstEntry.{InstEntry}
 use Rattle.block_store.specs.Block.{Block}
 use Rattle.block_store.specs.Fields.{master_in, terminals_in}
-use Rattle.block_store.specs.Lists.{list_in, on_record, on_slot}
+use Rattle.slot_pool.specs.Mapped.{on_record, on_slot}
+use Rattle.block_store.specs.Lists.{list_in}
 use Rattle.block_store.specs.Moves.{with_index, with_master, with_terminals}
 use Rattle.block_store.specs.Sound.{inst_terms}
 use Rattle.block_store.specs.Tables.{IsTable}
 use Rattle.block_store.specs.Store.{Store}
 use Rattle.block_store.proofs.Joined.{net_shown, none_is, some_is}
-use Rattle.block_store.proofs.Shown.{live_on, table_on, view_on}
-use Rattle.block_store.proofs.TableLemmas.{at_on, at_on_other, slots_on}
+use Rattle.slot_pool.proofs.Mapped.{at_on, at_on_other, slots_on, view_on}
+use Rattle.block_store.proofs.Shown.{live_on, table_on}
 use Rattle.steps_net.specs.Back.{master_of}
 use Rattle.steps_net.specs.Do.{swapped, terms_indexed}
 use Rattle.steps_net.proofs.InstancesLoops.{with_iterm}

@@ -3,8 +3,12 @@ ghost use Rattle.slot_pool.specs.Table.{is_live};
 ghost use Rattle.block_store.specs.Block.{live_in};
 ghost use Rattle.block_store.specs.Fields.{HasNet, HasPlace, HasUsage, direction_in, index_in, master_in, net_in, place_in, special_in, terminals_in, usage_in};
 ghost use Rattle.block_store.specs.Moves.{with_direction, with_index, with_master, with_name, with_net, with_place, with_special, with_terminals, with_usage};
-ghost use Rattle.block_store.specs.Names.{HasNames, name_in};
+ghost use Rattle.block_store.specs.Names.{HasNames, IsFreeBut, name_in};
 
+use crate::entry_fields::{
+    BTermDirection, BTermNet, BTermUsage, InstMaster, InstPlace, InstTerminals, NetSpecial,
+    NetUsage,
+};
 use crate::pools::Pools;
 use block_records::Terminals;
 use odb_base::{Direction, Kind, Name, Placement, Steps, Usage};
@@ -30,7 +34,7 @@ impl Pools {
     {
         match kind {
             Kind::ITerm => mem::replace(&mut self.iterm.change(id, moves).net, net),
-            Kind::BTerm => mem::replace(&mut self.bterm.change(id, moves).fields.net, net),
+            Kind::BTerm => self.bterm.set::<BTermNet, _>(id, net, moves),
             _ => unreachable!(),
         }
     }
@@ -51,7 +55,7 @@ impl Pools {
         ensures room { self.new.room ≡ self.old.room }
     {
         match kind {
-            Kind::Inst => mem::replace(&mut self.inst.change(id, moves).fields.place, place),
+            Kind::Inst => self.inst.set::<InstPlace, _>(id, place, moves),
             Kind::Pin => mem::replace(&mut self.pin.change(id, moves).place, place),
             _ => unreachable!(),
         }
@@ -73,8 +77,8 @@ impl Pools {
         ensures room { self.new.room ≡ self.old.room }
     {
         match kind {
-            Kind::Net => mem::replace(&mut self.net.change(id, moves).fields.usage, usage),
-            Kind::BTerm => mem::replace(&mut self.bterm.change(id, moves).fields.usage, usage),
+            Kind::Net => self.net.set::<NetUsage, _>(id, usage, moves),
+            Kind::BTerm => self.bterm.set::<BTermUsage, _>(id, usage, moves),
             _ => unreachable!(),
         }
     }
@@ -92,10 +96,7 @@ impl Pools {
         ensures cap { self.new.cap ≡ self.old.cap }
         ensures room { self.new.room ≡ self.old.room }
     {
-        mem::replace(
-            &mut self.bterm.change(id, moves).fields.direction,
-            direction,
-        )
+        self.bterm.set::<BTermDirection, _>(id, direction, moves)
     }
 
     // Whether a net is special.
@@ -111,7 +112,7 @@ impl Pools {
         ensures cap { self.new.cap ≡ self.old.cap }
         ensures room { self.new.room ≡ self.old.room }
     {
-        mem::replace(&mut self.net.change(id, moves).fields.special, special)
+        self.net.set::<NetSpecial, _>(id, special, moves)
     }
 
     // The number of the master of an instance.
@@ -127,7 +128,7 @@ impl Pools {
         ensures cap { self.new.cap ≡ self.old.cap }
         ensures room { self.new.room ≡ self.old.room }
     {
-        mem::replace(&mut self.inst.change(id, moves).fields.master, master)
+        self.inst.set::<InstMaster, _>(id, master, moves)
     }
 
     // The terminals of an instance.
@@ -143,7 +144,7 @@ impl Pools {
         ensures cap { self.new.cap ≡ self.old.cap }
         ensures room { self.new.room ≡ self.old.room }
     {
-        mem::replace(&mut self.inst.change(id, moves).fields.terminals, terminals)
+        self.inst.set::<InstTerminals, _>(id, terminals, moves)
     }
 
     // The place of an instance terminal among those of its instance.
@@ -167,18 +168,19 @@ impl Pools {
     ) -> Name
         requires live { IsTrue (live_in kind id self.old.block) }
         requires named { HasNames kind }
+        requires free { IsFreeBut kind id name self.old.block }
         ensures value { name_in kind id self.old.block ≡ Some result }
         ensures block { self.new.block ≡ with_name kind id name self.old.block }
         ensures cap { self.new.cap ≡ self.old.cap }
         ensures room { self.new.room ≡ self.old.room }
     {
         match kind {
-            Kind::Inst => mem::replace(&mut self.inst.change(id, moves).fields.name, name),
-            Kind::Net => mem::replace(&mut self.net.change(id, moves).fields.name, name),
-            Kind::BTerm => mem::replace(&mut self.bterm.change(id, moves).fields.name, name),
-            Kind::Row => mem::replace(&mut self.row.change(id, moves).fields.name, name),
-            Kind::Region => mem::replace(&mut self.region.change(id, moves).fields.name, name),
-            Kind::Group => mem::replace(&mut self.group.change(id, moves).fields.name, name),
+            Kind::Inst => self.inst.rename(id, name, moves),
+            Kind::Net => self.net.rename(id, name, moves),
+            Kind::BTerm => self.bterm.rename(id, name, moves),
+            Kind::Row => self.row.rename(id, name, moves),
+            Kind::Region => self.region.rename(id, name, moves),
+            Kind::Group => self.group.rename(id, name, moves),
             _ => unreachable!(),
         }
     }

@@ -1,6 +1,7 @@
 ghost use Rattle.std.specs.Prelude.{◌≡◌, ◌≤◌, ◌+◌, ◌≢◌, [], IsTrue, Some};
 ghost use Rattle.slot_pool.specs.Table.{CanUntake};
 ghost use Rattle.block_records.specs.Record.{kind_of};
+ghost use Rattle.block_store.specs.Alone.{IsNew};
 ghost use Rattle.block_store.specs.Block.{free_in, is_empty, live_in, next_in, record_of};
 ghost use Rattle.block_store.specs.Moves.{CanUntakeIn, given_in, taken_in, ungiven_in, untaken_in};
 ghost use Rattle.block_store.specs.Store.{ChangesRoom, room_of};
@@ -22,6 +23,7 @@ impl Pools {
     // Puts a new object into its table, with empty lists.
     pub(crate) fn take<L: Ledger>(&mut self, object: Record, moves: &mut Steps<L>) -> Taken
         requires room { 1 ≤ room_of (kind_of object) self.old.room }
+        requires name { IsNew object self.old.block }
         ensures id { result.id ≡ next_in (kind_of object) self.old.block }
         ensures grew { result.grew ≡ is_empty (free_in (kind_of object) self.old.block) }
         ensures block { self.new.block ≡ taken_in object self.old.block }
@@ -107,6 +109,7 @@ impl Pools {
     // empty lists.
     pub(crate) fn ungive<L: Ledger>(&mut self, object: Record, moves: &mut Steps<L>) -> u32
         requires free { free_in (kind_of object) self.old.block ≢ [] }
+        requires name { IsNew object self.old.block }
         ensures id { result ≡ next_in (kind_of object) self.old.block }
         ensures block { self.new.block ≡ ungiven_in object self.old.block }
         ensures cap { self.new.cap ≡ self.old.cap }

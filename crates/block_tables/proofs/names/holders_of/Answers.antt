@@ -1,5 +1,5 @@
 use Rattle.std.proofs.Common.{◌+◌, min, if◌then◌else◌, ap, sym, ◌∙◌}
-use Rattle.block_store.specs.Names.{is_named}
+use Rattle.named_pool.specs.Names.{is_named}
 use Rattle.block_tables.proofs.Counts.{counted_more}
 use Rattle.block_tables.proofs.names.holders_of.Goals as goal
 

@@ -1,6 +1,6 @@
 use Rattle.std.proofs.Common.{◌≡◌, eq-eqb, count_by, min, ap, ◌∙◌, arith}
 use Rattle.std.proofs.lemmas.Bool.{eqb-true}
-use Rattle.block_store.specs.Names.{is_named}
+use Rattle.named_pool.specs.Names.{is_named}
 use Rattle.block_tables.specs.Counting.{holders_in}
 use Rattle.block_tables.proofs.Aloneness.{alone_if_one, one_if_alone}
 use Rattle.block_tables.proofs.names.is_alone.Goals as goal
