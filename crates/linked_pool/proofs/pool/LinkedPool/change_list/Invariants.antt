@@ -1,0 +1,4 @@
+use Rattle.linked_pool.proofs.pool.LinkedPool.change_list.Given as goal
+
+abbrev pub ghost-change_list : goal.ghost-change_list
+ghost-change_list g a = g.ids
