@@ -1,2 +1,4 @@
+pub mod Keeping
+pub mod Moving
 pub mod Reading
 pub mod Showing
