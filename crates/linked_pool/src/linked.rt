@@ -7,7 +7,8 @@ use odb_base::Name;
 use std::marker::PhantomData;
 use std::mem;
 
-/// An object with the link by which it stands in a list, or 0 on both sides where it stands in none.
+/// An object with its link: the members next to it in the list that it stands in. What the link of an object is that stands
+/// in no list isn't said, since one that leaves keeps its own.
 #[derive(Drop)]
 pub struct Linked<R> {
     pub value: R,
