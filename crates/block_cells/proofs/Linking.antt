@@ -1,5 +1,5 @@
 -- Links that are set in the pools of terminals are set in the block.
-use Rattle.std.proofs.Common.{◌≡◌, ◌/◌, List, ℕ, refl, inl, inr}
+use Rattle.std.proofs.Common.{◌≡◌, List, ℕ, refl, inl, inr}
 use Rattle.std.proofs.lemmas.Bool.{cases_Bool}
 use Rattle.link_list.specs.declared.link.Link.{Link}
 use Rattle.linked_pool.specs.Changes.{with_links}

@@ -2,28 +2,20 @@
 -- object, the first member of each list that the object has, and, where objects of the kind stand in lists, a link.
 use Rattle.std.specs.Prelude.{Bool, true, false, List, [], ◌∷◌, ℕ, Option, length, option_map}
 use Rattle.slot_pool.specs.Mapped.{on_record}
-use Rattle.slot_pool.specs.Table.{CanUntake, Table, given, is_live, live_count, next_id, record_at, taken, ungiven, untaken}
+use Rattle.slot_pool.specs.Table.{CanUntake, Table, given, is_live, next_id, record_at, taken, ungiven, untaken}
 use Rattle.odb_base.specs.declared.codes.kind.Kind.{Kind}
 use Rattle.odb_base.specs.declared.codes.kind.Kind.TheVariants as kind
 use Rattle.link_list.specs.declared.link.Head.{Head}
-use Rattle.link_list.specs.declared.link.Link.{Link}
 use Rattle.linked_pool.specs.declared.linked.Linked.{Linked}
 use Rattle.linked_pool.specs.Linking.{no_link}
-use Rattle.block_records.specs.Record.{kind_of}
 use Rattle.block_records.specs.declared.header.Header.{Header}
 use Rattle.block_records.specs.declared.record.Record.{Record}
 use Rattle.block_records.specs.declared.record.Record.TheVariants as rec
-use Rattle.block_records.specs.declared.inst.InstRec.{InstRec}
 use Rattle.block_records.specs.declared.iterm.ITermRec.{ITermRec}
-use Rattle.block_records.specs.declared.net.NetRec.{NetRec}
-use Rattle.block_records.specs.declared.bterm.BTermRec.{BTermRec}
 use Rattle.block_records.specs.declared.pin.PinRec.{PinRec}
-use Rattle.block_records.specs.declared.row.RowRec.{RowRec}
 use Rattle.block_records.specs.declared.track.TrackRec.{TrackRec}
 use Rattle.block_records.specs.declared.wire.WireRec.{WireRec}
 use Rattle.block_records.specs.declared.blockage.BlockageRec.{BlockageRec}
-use Rattle.block_records.specs.declared.region.RegionRec.{RegionRec}
-use Rattle.block_records.specs.declared.group.GroupRec.{GroupRec}
 use Rattle.block_records.specs.declared.prop.PropRec.{PropRec}
 use Rattle.block_cells.specs.declared.cells.InstCell.{InstCell}
 use Rattle.block_cells.specs.declared.cells.NetCell.{NetCell}
@@ -95,36 +87,6 @@ with_cells kind.Blockage t c = record c { blockage = t }
 with_cells kind.Region t c = record c { region = t }
 with_cells kind.Group t c = record c { group = t }
 with_cells kind.Prop t c = record c { prop = t }
-
--- the cell of a new object: its lists have no members, and it stands in none
-abbrev pub new_cell : (r : Record) → Cell (kind_of r)
-new_cell (rec.Inst r) = record { value = record { fields = r; props = no_head }; link = no_link }
-new_cell (rec.ITerm r) = record { value = r; link = no_link }
-new_cell (rec.Net r) = record { fields = r; terms = no_head; wires = no_head; props = no_head }
-new_cell (rec.BTerm r) = record { value = record { fields = r; pins = no_head }; link = no_link }
-new_cell (rec.Pin r) = record { value = r; link = no_link }
-new_cell (rec.Row r) = record { fields = r; props = no_head }
-new_cell (rec.Track r) = r
-new_cell (rec.Wire r) = record { value = r; link = no_link }
-new_cell (rec.Blockage r) = r
-new_cell (rec.Region r) = record { fields = r; groups = no_head; props = no_head }
-new_cell (rec.Group r) = record { value = record { fields = r; members = no_head; props = no_head }; link = no_link }
-new_cell (rec.Prop r) = record { value = r; link = no_link }
-
--- the record in a cell
-abbrev pub record_in : (k : Kind) → Cell k → Record
-record_in kind.Inst x = rec.Inst x.value.fields
-record_in kind.ITerm x = rec.ITerm x.value
-record_in kind.Net x = rec.Net x.fields
-record_in kind.BTerm x = rec.BTerm x.value.fields
-record_in kind.Pin x = rec.Pin x.value
-record_in kind.Row x = rec.Row x.fields
-record_in kind.Track x = rec.Track x
-record_in kind.Wire x = rec.Wire x.value
-record_in kind.Blockage x = rec.Blockage x
-record_in kind.Region x = rec.Region x.fields
-record_in kind.Group x = rec.Group x.value.fields
-record_in kind.Prop x = rec.Prop x.value
 
 -- a list has no members
 abbrev pub is_empty : {A : Type 0} → List A → Bool
@@ -273,7 +235,3 @@ live_in k id c = on_cells (λ A t. is_live t id) k c
 -- the identifier that a new object of the kind gets after so many further ones
 abbrev pub later_in : Kind → ℕ → Cells → ℕ
 later_in k n c = on_cells (λ A t. next_id t n) k c
-
--- how many objects of the kind there are
-abbrev pub live_count_in : Kind → Cells → ℕ
-live_count_in k c = on_cells (λ A t. live_count t) k c

@@ -1,7 +1,6 @@
-ghost use Rattle.std.specs.Prelude.{◌≡◌, ◌≤◌, ◌+◌, ◌≢◌, [], IsTrue, Some, option_map};
-ghost use Rattle.slot_pool.specs.Table.{CanUntake, record_at};
+ghost use Rattle.std.specs.Prelude.{◌≡◌, ◌≤◌, ◌+◌, ◌≢◌, [], IsTrue, Some};
 ghost use Rattle.block_records.specs.Record.{kind_of, name_of};
-ghost use Rattle.block_cells.specs.Cells.{CanUntakeCell, cells_of, free_in, given_cell, is_empty, later_in, live_in, record_in, record_of, taken_cell, ungiven_cell, untaken_cell};
+ghost use Rattle.block_cells.specs.Cells.{CanUntakeCell, free_in, given_cell, is_empty, later_in, live_in, record_of, taken_cell, ungiven_cell, untaken_cell};
 ghost use Rattle.block_cells.specs.Names.{IsNameFree};
 ghost use Rattle.block_cells.specs.Rooms.{ChangesRoom, room_of};
 

@@ -1,6 +1,6 @@
 -- The slots of two pools as the cells of one sort of linked lists: twice the id for those of the first pool, and one
 -- more than twice the id for those of the second.
-use Rattle.std.proofs.Common.{◌≡◌, ◌≢◌, ◌==◌, ◌%◌, ◌/◌, ◌*◌, ◌+◌, Bool, true, false, eqb, cond, ℕ, refl, sym, ap, ◌∙◌, inl, inr, arith}
+use Rattle.std.proofs.Common.{◌≡◌, ◌≢◌, ◌==◌, ◌%◌, ◌/◌, Bool, true, false, ℕ, refl, sym, ◌∙◌, inl, inr, arith}
 use Rattle.std.proofs.lemmas.Bool.{cases_Bool, eqb-true, eqb-false}
 use Rattle.std.specs.Prelude.{if◌then◌else◌}
 use Rattle.link_list.specs.declared.link.Link.{Link}

@@ -3,7 +3,6 @@ use Rattle.slot_pool.specs.Table.{Pool}
 use Rattle.linked_pool.proofs.Keeping.{links_through}
 use Rattle.linked_pool.specs.Changes.{with_links}
 use Rattle.linked_pool.specs.Linking as one
-use Rattle.linked_pool.specs.Pairs as pair
 use Rattle.linked_pool.specs.declared.linked.Linked.{Linked}
 use Rattle.linked_pool.specs.declared.pairs.PairedPools.{PairedPools}
 use Rattle.block_records.specs.declared.iterm.ITermRec.{ITermRec}

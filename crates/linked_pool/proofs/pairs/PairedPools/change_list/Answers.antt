@@ -1,6 +1,5 @@
-use Rattle.std.proofs.Common.{◌≡◌, ◌∙◌, ap, lives, rules}
+use Rattle.std.proofs.Common.{◌∙◌, ap, lives, rules}
 use Rattle.linked_pool.specs.Pairs.{link_of, with_link}
-use Rattle.linked_pool.specs.declared.pairs.PairedPools.{PairedPools}
 use Rattle.linked_pool.proofs.Keeping.{both_values, links_keep, pair-with_link}
 use Rattle.linked_pool.proofs.pairs.PairedPools.change_list.Goals as goal
 

@@ -1,4 +1,4 @@
-use Rattle.std.proofs.Common.{◌≡◌, ◌∙◌, ap, lives, refl, rules}
+use Rattle.std.proofs.Common.{◌∙◌, ap, lives, refl, rules}
 use Rattle.linked_pool.specs.Linking.{link_of, with_link}
 use Rattle.linked_pool.specs.declared.pool.LinkedPool.{LinkedPool}
 use Rattle.linked_pool.proofs.Keeping.{links_keep, links_through, values-with_link, values_of}
