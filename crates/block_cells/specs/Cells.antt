@@ -2,7 +2,7 @@
 -- object, the first member of each list that the object has, and, where objects of the kind stand in lists, a link.
 use Rattle.std.specs.Prelude.{Bool, true, false, List, [], ◌∷◌, ℕ, Option, length, option_map}
 use Rattle.slot_pool.specs.Mapped.{on_record}
-use Rattle.slot_pool.specs.Table.{CanUntake, Table, given, is_live, next_id, record_at, taken, ungiven, untaken}
+use Rattle.slot_pool.specs.Table.{CanUntake, Table, given, is_live, live_count, next_id, record_at, taken, ungiven, untaken}
 use Rattle.odb_base.specs.declared.codes.kind.Kind.{Kind}
 use Rattle.odb_base.specs.declared.codes.kind.Kind.TheVariants as kind
 use Rattle.link_list.specs.declared.link.Head.{Head}
@@ -235,3 +235,7 @@ live_in k id c = on_cells (λ A t. is_live t id) k c
 -- the identifier that a new object of the kind gets after so many further ones
 abbrev pub later_in : Kind → ℕ → Cells → ℕ
 later_in k n c = on_cells (λ A t. next_id t n) k c
+
+-- how many objects of the kind there are
+abbrev pub live_count_in : Kind → Cells → ℕ
+live_count_in k c = on_cells (λ A t. live_count t) k c

@@ -1,12 +1,13 @@
 -- The lists of objects as they lie in the cells: the head of each is in the cell of the object that has it, and the links
 -- are in the cells of its members.
-use Rattle.std.specs.Prelude.{◌/◌, Bool, false, ℕ, IsTrue, if◌then◌else◌}
+use Rattle.std.specs.Prelude.{◌/◌, ◌+◌, ◌*◌, Bool, false, List, ℕ, IsTrue, if◌then◌else◌, length}
 use Rattle.std.specs.Option.{option_map_or}
 use Rattle.slot_pool.specs.Table.{is_live, record_at}
 use Rattle.odb_base.specs.declared.codes.kind.Kind.{Kind}
 use Rattle.odb_base.specs.declared.codes.kind.Kind.TheVariants as kind
 use Rattle.link_list.specs.declared.link.Head.{Head}
 use Rattle.link_list.specs.declared.link.Link.{Link}
+use Rattle.link_list.specs.Standing.{members_from}
 use Rattle.linked_pool.specs.Linking.{no_link, relinked}
 use Rattle.linked_pool.specs.Pairs.{is_first}
 use Rattle.block_cells.specs.declared.list_of.ListOf.{ListOf}
@@ -124,3 +125,17 @@ HasList (list.Pins bterm) c = IsTrue (is_live c.bterm bterm.0)
 HasList (list.Groups region) c = IsTrue (is_live c.region region.0)
 HasList (list.Props k id) c = HasProps k id c
 HasList (list.InstTerms inst) c = ⊥
+
+-- no cell of a member of a list of the sort is above this number
+abbrev pub most : Sort → Cells → ℕ
+most Terms c = 2 * length c.iterm.slots + 2 * length c.bterm.slots + 1
+most Wires c = length c.wire.slots
+most Members c = length c.inst.slots
+most Pins c = length c.pin.slots
+most Groups c = length c.group.slots
+most Props c = length c.prop.slots
+most None c = 0
+
+-- the members from a number on, by the links
+abbrev pub rest_from : Sort → Cells → ℕ → List ℕ
+rest_from s c next = members_from (link_at s c) (most s c) next

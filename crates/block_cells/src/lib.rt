@@ -3,7 +3,8 @@
 //!
 //! Contracts see the cells as they lie: twelve tables, the cap of their slots, and for how many new objects there is
 //! room. A list is what its head and the links of its members say: [`Pools::head`] and [`Pools::set_head`] read and set
-//! the one, and [`Pools::change_links`] changes the others by one member, given the list that the head stands for. That
+//! the one, and [`Pools::change_links`] changes the others by one member, given the list that the head stands for;
+//! [`Pools::walk`] goes along them. That
 //! the lists of all objects stand at once, and that no member is in two, is for the crate above.
 //!
 //! [`Pools::room`] and [`Pools::new`] alone take memory, and where there is room the calls that need it can't fail. Each
@@ -15,7 +16,9 @@
 
 mod cell_fields;
 pub mod cells;
+pub mod counts;
 mod every_kind;
+pub mod free_ids;
 pub mod links;
 pub mod list_of;
 pub mod names;
@@ -24,7 +27,10 @@ pub mod pools;
 pub mod records;
 pub mod rooms;
 pub mod setters;
+pub mod walk;
 
 pub use cells::{BTermCell, GroupCell, InstCell, NetCell, RegionCell, RowCell};
+pub use free_ids::FreeIds;
 pub use list_of::ListOf;
 pub use pools::Pools;
+pub use walk::Links;

@@ -130,6 +130,7 @@ impl Pools {
     pub fn slots(&self, kind: Kind) -> u32
         ensures count { result ≡ slots_in kind self.now.cells }
         ensures within { slots_in kind self.now.cells ≤ self.now.cap }
+        ensures limit { self.now.cap ≤ 16777215 }
         ensures bounds { IsRoomBounded kind self.now }
     {
         by_kind!(self, kind, pool => pool.slots())

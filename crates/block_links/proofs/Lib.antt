@@ -1,4 +1,12 @@
+pub mod Coming
+pub mod FieldMoves
 pub mod Keeping
+pub mod Linked
+pub mod ListMoves
+pub mod Listing
+pub mod Members
+pub mod Moves
 pub mod Moving
 pub mod Reading
+pub mod Seen
 pub mod Showing

@@ -1,25 +1,23 @@
 -- Cells stand for one block.
-use Rattle.std.proofs.Common.{◌≡◌, ◌+◌, ◌/◌, ◌≤◌, List, ℕ, Option, None, Some, length, refl, sym, ap, ◌∙◌, arith, true, false, inl, inr}
+use Rattle.std.proofs.Common.{◌≡◌, ◌+◌, List, ℕ, Option, None, Some, length, refl, sym, ap, ◌∙◌}
 use Rattle.std.specs.Option.{option_map, option_map_or}
-use Rattle.std.proofs.lemmas.Bool.{cases_Bool}
 use Rattle.std.proofs.lemmas.List.{ext_get_or}
 use Rattle.slot_pool.specs.Table.{Table, record_at}
-use Rattle.slot_pool.proofs.Counts.{live_within}
 use Rattle.slot_pool.proofs.Mapped.{at_plain, slots_plain}
 use Rattle.named_pool.proofs.Finding.{record_at_place}
 use Rattle.link_list.specs.declared.link.Head.{Head}
 use Rattle.link_list.specs.Lists.{list_of}
 use Rattle.link_list.specs.Standing.{Stands}
 use Rattle.link_list.proofs.Reading.{members-stands}
-use Rattle.linked_pool.specs.Pairs.{is_first}
 use Rattle.odb_base.specs.declared.codes.kind.Kind.{Kind}
 use Rattle.odb_base.specs.declared.codes.kind.Kind.TheVariants as kind
 use Rattle.block_cells.specs.Cells.{Cell, Cells, cells_of}
-use Rattle.block_cells.specs.Lists.{is_cell, link_at}
+use Rattle.block_cells.specs.Lists.{is_cell, link_at, most}
+use Rattle.block_cells.proofs.Reading.{cell_few, cell_none}
 use Rattle.block_store.specs.Block.{Block}
 use Rattle.block_store.specs.Consistent.{Groups, ListSort, Members, OwnLists, Pins, Props, Terms, Wires, lists_in, of_sort}
 use Rattle.block_store.specs.Kinds.{Entry, table_of}
-use Rattle.block_links.specs.Standing.{StandsFor, block_of, entry, head_of, lists_by, most, no_heads, own_heads, shown, sort_of}
+use Rattle.block_links.specs.Standing.{StandsFor, block_of, entry, head_of, lists_by, no_heads, own_heads, shown, sort_of}
 
 -- two tables with the same records and free identifiers are the same
 pub tables_same : {A : Type 0} (t u : Table A) → length t.slots ≡ length u.slots → t.free ≡ u.free → ((id : ℕ) → record_at t id ≡ record_at u id) → t ≡ u
@@ -54,33 +52,24 @@ lists_same l m same =
     ∙ ap (λ x. record l { terms = m.terms; wires = m.wires; members = m.members; pins = m.pins; groups = x }) (same Groups)
     ∙ ap (λ x. record l { terms = m.terms; wires = m.wires; members = m.members; pins = m.pins; groups = m.groups; props = x }) (same Props)
 
--- 0 is no cell
-pub cell_none : (s : ListSort) (c : Cells) → is_cell (sort_of s) c 0 ≡ false
-cell_none Terms c = refl
-cell_none Wires c = refl
-cell_none Members c = refl
-cell_none Pins c = refl
-cell_none Groups c = refl
-cell_none Props c = refl
-
-few_terms : (c : Cells) (m : ℕ) → is_cell (sort_of Terms) c m ≡ true → m ≤ most Terms c
-few_terms c m is = elim (cases_Bool (is_first m)) [
-  | inl e ↦ omega (arith, (live_within c.iterm.slots (m / 2) (rw e at is)).1)
-  | inr e ↦ omega (arith, (live_within c.bterm.slots (m / 2) (rw e at is)).1)
-]
-
--- no cell is above the greatest number
-pub cell_few : (s : ListSort) (c : Cells) (m : ℕ) → is_cell (sort_of s) c m ≡ true → m ≤ most s c
-cell_few Terms c m is = few_terms c m is
-cell_few Wires c m is = (live_within c.wire.slots m is).1
-cell_few Members c m is = (live_within c.inst.slots m is).1
-cell_few Pins c m is = (live_within c.pin.slots m is).1
-cell_few Groups c m is = (live_within c.group.slots m is).1
-cell_few Props c m is = (live_within c.prop.slots m is).1
-
 -- the list that a head stands for is the one that it leads to
-read_is : (s : ListSort) (c : Cells) (h : Head) (ids : List ℕ) → Stands (is_cell (sort_of s) c) (link_at (sort_of s) c) h ids → list_of (link_at (sort_of s) c) (most s c) h ≡ ids
-read_is s c h ids at = members-stands (is_cell (sort_of s) c) (link_at (sort_of s) c) (cell_none s c) h ids (most s c) (cell_few s c) at
+read_is : (s : ListSort) (c : Cells) (h : Head) (ids : List ℕ) → Stands (is_cell (sort_of s) c) (link_at (sort_of s) c) h ids → list_of (link_at (sort_of s) c) (most (sort_of s) c) h ≡ ids
+read_is s c h ids at = members-stands (is_cell (sort_of s) c) (link_at (sort_of s) c) (cell_none (sort_of s) c) h ids (most (sort_of s) c) (cell_few (sort_of s) c) at
+
+-- the table of a kind, as it is read off
+pub table_shown : (c : Cells) (k : Kind) → table_of k (block_of c) ≡ shown k c
+table_shown c kind.Inst = refl
+table_shown c kind.ITerm = refl
+table_shown c kind.Net = refl
+table_shown c kind.BTerm = refl
+table_shown c kind.Pin = refl
+table_shown c kind.Row = refl
+table_shown c kind.Track = refl
+table_shown c kind.Wire = refl
+table_shown c kind.Blockage = refl
+table_shown c kind.Region = refl
+table_shown c kind.Group = refl
+table_shown c kind.Prop = refl
 
 module _ (c : Cells) (b : Block) (stands : StandsFor c b) where
   by_sort : (s : ListSort) (k : Kind) (id : ℕ) (x : Cell k) → Stands (is_cell (sort_of s) c) (link_at (sort_of s) c) (head_of s (own_heads k x)) (of_sort s (lists_in k (table_of k b) id)) → of_sort s (lists_by c (own_heads k x)) ≡ of_sort s (lists_in k (table_of k b) id)
@@ -102,26 +91,12 @@ module _ (c : Cells) (b : Block) (stands : StandsFor c b) where
   row_read k id None is = refl
   row_read k id (Some x) is = ap (λ l. Some (entry k x l)) (lists_read k id x is)
 
-  table_read : (k : Kind) → shown k c ≡ table_of k b
+  pub table_read : (k : Kind) → shown k c ≡ table_of k b
   table_read k =
       let show : Cell k → Entry k = λ x. entry k x (lists_by c (own_heads k x)) in
       tables_same (shown k c) (table_of k b) (slots_plain show (cells_of k c) ∙ (stands.tables k).slots) (stands.tables k).free
       (λ id. at_plain show (cells_of k c) id ∙ row_read k id (record_at (cells_of k c) id) refl ∙ sym ((stands.tables k).rows id))
 
-  table_shown : (k : Kind) → table_of k (block_of c) ≡ shown k c
-  table_shown kind.Inst = refl
-  table_shown kind.ITerm = refl
-  table_shown kind.Net = refl
-  table_shown kind.BTerm = refl
-  table_shown kind.Pin = refl
-  table_shown kind.Row = refl
-  table_shown kind.Track = refl
-  table_shown kind.Wire = refl
-  table_shown kind.Blockage = refl
-  table_shown kind.Region = refl
-  table_shown kind.Group = refl
-  table_shown kind.Prop = refl
-
   -- cells stand for the block that is read off them, and for no other
   pub read_off : block_of c ≡ b
-  read_off = blocks_same (block_of c) b stands.header (λ k. table_shown k ∙ table_read k)
+  read_off = blocks_same (block_of c) b stands.header (λ k. table_shown c k ∙ table_read k)

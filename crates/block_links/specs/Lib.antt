@@ -1,1 +1,4 @@
+pub mod Changing
 pub mod Standing
+pub mod Stores
+pub mod Walks

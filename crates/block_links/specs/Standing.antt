@@ -1,5 +1,5 @@
 -- When the cells of a block stand for its tables.
-use Rattle.std.specs.Prelude.{◌≡◌, ◌+◌, ◌*◌, List, ℕ, length}
+use Rattle.std.specs.Prelude.{◌≡◌, List, ℕ, length}
 use Rattle.std.specs.Option.{option_map, option_map_or}
 use Rattle.slot_pool.specs.Mapped.{plain}
 use Rattle.slot_pool.specs.Table.{Table, record_at}
@@ -9,7 +9,7 @@ use Rattle.link_list.specs.declared.link.Head.{Head}
 use Rattle.link_list.specs.Lists.{list_of}
 use Rattle.link_list.specs.Standing.{Stands}
 use Rattle.block_cells.specs.Cells.{Cell, Cells, cells_of, no_head}
-use Rattle.block_cells.specs.Lists.{is_cell, link_at}
+use Rattle.block_cells.specs.Lists.{is_cell, link_at, most}
 use Rattle.block_cells.specs.Lists as cell
 use Rattle.block_store.specs.Block.{Block}
 use Rattle.block_store.specs.Consistent.{Groups, ListSort, Members, OwnLists, Pins, Props, Terms, Wires, lists_in, of_sort}
@@ -72,18 +72,9 @@ sort_of Pins = cell.Pins
 sort_of Groups = cell.Groups
 sort_of Props = cell.Props
 
--- no cell of a member is above this number
-abbrev pub most : ListSort → Cells → ℕ
-most Terms c = 2 * length c.iterm.slots + 2 * length c.bterm.slots + 1
-most Wires c = length c.wire.slots
-most Members c = length c.inst.slots
-most Pins c = length c.pin.slots
-most Groups c = length c.group.slots
-most Props c = length c.prop.slots
-
 -- the lists that heads lead to
 abbrev pub read_list : Cells → OwnHeads → ListSort → List ℕ
-read_list c h s = list_of (link_at (sort_of s) c) (most s c) (head_of s h)
+read_list c h s = list_of (link_at (sort_of s) c) (most (sort_of s) c) (head_of s h)
 
 abbrev pub lists_by : Cells → OwnHeads → OwnLists
 lists_by c h = record {

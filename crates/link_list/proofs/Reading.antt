@@ -13,7 +13,7 @@ module _ (cell : ℕ → Bool) (link : ℕ → Link) (none : cell 0 ≡ false) w
   some_cell id is e = false≢true (sym none ∙ ap cell (sym e) ∙ is)
 
   -- the members from the first one on
-  members-linked : (b : ℕ) (ids : List ℕ) (most : ℕ) → AreLinked cell link b ids 0 → length ids ≤ most → members_from link most (number (first ids)) ≡ ids
+  pub members-linked : (b : ℕ) (ids : List ℕ) (most : ℕ) → AreLinked cell link b ids 0 → length ids ≤ most → members_from link most (number (first ids)) ≡ ids
   members-linked b [] zero h few = refl
   members-linked b [] (suc most) h few = refl
   members-linked b (x ∷ xs) zero h few = absurd (omega (arith, few))
